@@ -1,0 +1,3 @@
+pub mod Residues
+pub mod Conversions
+pub mod Outcomes

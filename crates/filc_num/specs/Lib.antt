@@ -1,0 +1,4 @@
+pub mod Integers
+pub mod Reasons
+pub mod Statics
+pub mod StaticDefs

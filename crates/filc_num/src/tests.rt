@@ -1,0 +1,244 @@
+//! Values worked out by hand from the rules of C, at the edges of each type, and the printed texts.
+
+use super::*;
+use std::test::Fail;
+
+/// An integer as it is kept.
+fn kept(value: i64) -> u64 {
+    value.cast_unsigned()
+}
+
+#[test]
+fn conversions_at_the_edges(rt: HostRuntime) {
+    let rows = [
+        (
+            "300 to a signed char keeps the low byte",
+            300,
+            IntType::I8,
+            44,
+        ),
+        (
+            "128 to a signed char wraps to the least",
+            128,
+            IntType::I8,
+            -128,
+        ),
+        (
+            "-1 to an unsigned char is the greatest",
+            -1,
+            IntType::U8,
+            255,
+        ),
+        (
+            "32768 to a short wraps to the least",
+            32_768,
+            IntType::I16,
+            -32_768,
+        ),
+        ("65536 to an unsigned short is 0", 65_536, IntType::U16, 0),
+        (
+            "2147483648 to an int wraps to the least",
+            2_147_483_648,
+            IntType::I32,
+            -2_147_483_648,
+        ),
+        (
+            "-1 to an unsigned int is the greatest",
+            -1,
+            IntType::U32,
+            4_294_967_295,
+        ),
+        ("-1 to a long stays", -1, IntType::I64, -1),
+        ("256 to _Bool is 1, not its low bit", 256, IntType::Bool, 1),
+        ("0 to _Bool is 0", 0, IntType::Bool, 0),
+    ];
+    for (name, from, to, wanted) in rows {
+        assert_eq!(rt; convert(kept(from), to), kept(wanted), "{name}");
+    }
+}
+
+#[test]
+fn the_type_of_an_integer(rt: HostRuntime) {
+    assert_eq!(rt; IntType::Bool.width(), 1);
+    assert_eq!(rt; IntType::Bool.bytes(), 1);
+    assert_eq!(rt; IntType::I32.bytes(), 4);
+    assert!(rt; IntType::I16.is_signed());
+    assert!(rt; !IntType::U64.is_signed());
+}
+
+#[test]
+fn arithmetic_on_int(rt: HostRuntime) {
+    let least = -2_147_483_648;
+    let rows = [
+        (
+            "the greatest and 1",
+            BinOp::Add,
+            2_147_483_647,
+            1,
+            Ok(least),
+        ),
+        ("the least minus 1", BinOp::Sub, least, 1, Ok(2_147_483_647)),
+        ("65536 squared", BinOp::Mul, 65_536, 65_536, Ok(0)),
+        ("the least by -1", BinOp::Div, least, -1, Err(Arith::Divide)),
+        (
+            "the least by -1, remainder",
+            BinOp::Rem,
+            least,
+            -1,
+            Err(Arith::Divide),
+        ),
+        ("1 by 0", BinOp::Div, 1, 0, Err(Arith::Divide)),
+        ("-7 by 2 rounds toward zero", BinOp::Div, -7, 2, Ok(-3)),
+        ("-7 by 2, remainder", BinOp::Rem, -7, 2, Ok(-1)),
+        ("7 by -2, remainder", BinOp::Rem, 7, -2, Ok(1)),
+        ("-1 below 1", BinOp::Lt, -1, 1, Ok(1)),
+        ("-1 above 1", BinOp::Gt, -1, 1, Ok(0)),
+        ("-1 and 255", BinOp::And, -1, 255, Ok(255)),
+        ("12 or 10", BinOp::Or, 12, 10, Ok(14)),
+        ("12 exclusive or 10", BinOp::Xor, 12, 10, Ok(6)),
+    ];
+    for (name, op, a, b, wanted) in rows {
+        let (a, b) = (
+            convert(kept(a), IntType::I32),
+            convert(kept(b), IntType::I32),
+        );
+        assert_eq!(rt; binary(op, IntType::I32, a, b), wanted.map(kept), "{name}");
+    }
+}
+
+#[test]
+fn shifts_of_int(rt: HostRuntime) {
+    let rows = [
+        ("left by 0", BinOp::Shl, 5, 0, Ok(5)),
+        ("left by 31", BinOp::Shl, 1, 31, Ok(-2_147_483_648)),
+        ("left by the width", BinOp::Shl, 1, 32, Err(Arith::Shift)),
+        ("left by -1", BinOp::Shl, 1, -1, Err(Arith::Shift)),
+        ("right by 1 copies the sign", BinOp::Shr, -3, 1, Ok(-2)),
+        ("right by 31", BinOp::Shr, -1, 31, Ok(-1)),
+        ("right by the width", BinOp::Shr, 1, 32, Err(Arith::Shift)),
+    ];
+    for (name, op, a, b, wanted) in rows {
+        let a = convert(kept(a), IntType::I32);
+        assert_eq!(rt;
+            binary(op, IntType::I32, a, kept(b)),
+            wanted.map(kept),
+            "{name}"
+        );
+    }
+}
+
+#[test]
+fn the_wider_and_unsigned_types(rt: HostRuntime) {
+    let rows = [
+        (
+            "0 - 1 of unsigned int",
+            BinOp::Sub,
+            IntType::U32,
+            0,
+            1,
+            Ok(4_294_967_295),
+        ),
+        (
+            "the greatest of unsigned int by itself",
+            BinOp::Div,
+            IntType::U32,
+            -1,
+            -1,
+            Ok(1),
+        ),
+        (
+            "-1 below 1 of unsigned int",
+            BinOp::Lt,
+            IntType::U32,
+            -1,
+            1,
+            Ok(0),
+        ),
+        (
+            "unsigned int halved",
+            BinOp::Shr,
+            IntType::U32,
+            -1,
+            31,
+            Ok(1),
+        ),
+        (
+            "the greatest of long and 1",
+            BinOp::Add,
+            IntType::I64,
+            i64::MAX,
+            1,
+            Ok(i64::MIN),
+        ),
+        (
+            "the least of long by -1",
+            BinOp::Div,
+            IntType::I64,
+            i64::MIN,
+            -1,
+            Err(Arith::Divide),
+        ),
+        (
+            "the least of int as a long by -1",
+            BinOp::Div,
+            IntType::I64,
+            -2_147_483_648,
+            -1,
+            Ok(2_147_483_648),
+        ),
+        ("long by 63", BinOp::Shl, IntType::I64, 1, 63, Ok(i64::MIN)),
+        (
+            "long by 64",
+            BinOp::Shl,
+            IntType::I64,
+            1,
+            64,
+            Err(Arith::Shift),
+        ),
+        (
+            "2^63 of unsigned long by -1",
+            BinOp::Div,
+            IntType::U64,
+            i64::MIN,
+            -1,
+            Ok(0),
+        ),
+        (
+            "-1 at most 1 of unsigned long",
+            BinOp::Le,
+            IntType::U64,
+            -1,
+            1,
+            Ok(0),
+        ),
+        (
+            "-1 at least 1 of unsigned long",
+            BinOp::Ge,
+            IntType::U64,
+            -1,
+            1,
+            Ok(1),
+        ),
+    ];
+    for (name, op, t, a, b, wanted) in rows {
+        let (a, b) = (convert(kept(a), t), convert(kept(b), t));
+        assert_eq!(rt; binary(op, t, a, b), wanted.map(kept), "{name}");
+    }
+}
+
+#[test]
+fn reasons_have_numbers_and_texts(rt: HostRuntime) {
+    assert_eq!(rt; Reason::Bounds.text(), "out of bounds");
+    assert_eq!(rt; Reason::with_number(15).map(Reason::text), Some("abort"));
+    assert_eq!(rt; Reason::with_number(16), None);
+    assert_eq!(rt; Reason::Divide.number(), 11);
+}
+
+#[test]
+fn a_static_object_begins_as_zeros(rt: HostRuntime) -> Result<(), Fail> {
+    let object = StaticDef::zeroed(rt.alloc(), 9, false)?;
+    assert_eq!(rt; object.words.as_slice(), [0, 0].as_slice());
+    let copy = object.clone()?;
+    assert_eq!(rt; copy.halves.len(), 2);
+    Ok(())
+}
