@@ -1,0 +1,34 @@
+-- Bytes that are appended or given one part after another.
+use Rattle.std.proofs.Common.{◌≡◌, ℕ, ◌+◌, ◌-◌, ◌≤◌, List, [], ◌++◌, Option, Some, None, IsSomeAnd, length, take, drop, subst, refl, ap, sym, ◌∙◌, append_assoc, append-nil, arith, length-drop}
+use Rattle.std.specs.List.{find}
+use Rattle.std.specs.Option.{option_map}
+use Rattle.std.specs.Str.{bytes_eq}
+use Rattle.std.proofs.lemmas.List.{take_all}
+use Rattle.std.proofs.Math.Seq.{take-add}
+use Rattle.filc_io.specs.Outside.{appended, file_named}
+
+-- to append nothing changes nothing
+pub appended-nothing : (taken : Option (List ℕ)) → appended taken [] ≡ taken
+appended-nothing None = refl
+appended-nothing (Some bytes) = ap Some (append-nil bytes)
+
+-- two parts, one after the other
+pub appended-appended : (taken : Option (List ℕ)) (xs ys : List ℕ) → appended (appended taken xs) ys ≡ appended taken (xs ++ ys)
+appended-appended None xs ys = refl
+appended-appended (Some bytes) xs ys = ap Some (append_assoc bytes xs ys)
+
+-- a text's first m bytes, and then n more of it
+pub appended-more : (taken : Option (List ℕ)) (bytes : List ℕ) (m n : ℕ) → appended (appended taken (take m bytes)) (take n (drop m bytes)) ≡ appended taken (take (m + n) bytes)
+appended-more taken bytes m n = appended-appended taken (take m bytes) (take n (drop m bytes)) ∙ ap (appended taken) (sym (take-add m n bytes))
+
+-- the same, where the rest of the text was offered as a slice of its own
+pub appended-offered : (taken : Option (List ℕ)) (bytes : List ℕ) (m n : ℕ) → appended (appended taken (take m bytes)) (take n (take (length bytes - m) (drop m bytes))) ≡ appended taken (take (m + n) bytes)
+appended-offered taken bytes m n =
+    let short : length (drop m bytes) ≤ length bytes - m = omega (arith, length-drop m bytes) in
+    ap (λ rest. appended (appended taken (take m bytes)) (take n rest)) (take_all _ (drop m bytes) short) ∙ appended-more taken bytes m n
+
+-- the front of the file that was found is the front of the file of that name
+pub file_named-found : (name : List ℕ) (files : List (List ℕ × List ℕ)) (file : List ℕ × List ℕ) (front bytes : List ℕ) (n : ℕ) → Some file ≡ find (λ f. bytes_eq f.0 name) files → bytes ≡ file.1 → front ≡ take n bytes → IsSomeAnd (file_named name files) (λ b. front ≡ take n b)
+file_named-found name files file front bytes n found is_file is_front =
+    let P : Option (List ℕ × List ℕ) → Type 0 = λ o. IsSomeAnd (option_map (λ f. f.1) o) (λ b. front ≡ take n b) in
+    subst P found (is_front ∙ ap (take n) is_file)
