@@ -1,0 +1,9 @@
+pub mod Digits
+pub mod Quotes
+pub mod Runs
+pub mod Splices
+pub mod Scanning
+pub mod Cases
+pub mod Lengths
+pub mod Fronts
+pub mod Cuts

@@ -1,0 +1,9 @@
+pub mod Classes
+pub mod Source
+pub mod Number
+pub mod Quoted
+pub mod Punct
+pub mod List
+pub mod Front
+pub mod Tokens
+pub mod Law

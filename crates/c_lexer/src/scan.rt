@@ -1,0 +1,145 @@
+//! The pass over the bytes: the longest match at the front, then the rest.
+//!
+//! The file is copied once without its splices, with the line of each byte. Then each front is
+//! read where the one before it ended, so each byte is looked at a fixed number of times.
+
+ghost use Rattle.std.specs.Prelude.{◌≡◌, ◌≢◌, ◌↔◌, ◌+◌, ◌<◌, ◌≤◌, ◌^◌, length, true, false, IfOk, IfErr, OnOk, IsTrue, [], ◌∷◌, ◌++◌};
+ghost use Rattle.std.specs.Result.{IsErrOf};
+ghost use Rattle.c_lexer.specs.List.{all_within, ends_once};
+ghost use Rattle.c_lexer.specs.Law.{IsCutInto};
+ghost use Rattle.c_lexer.specs.Source.{joined};
+ghost use Rattle.c_lexer.specs.Tokens.{tokens_of, library_tokens_of, tokens_with, tokens_from, file_limit};
+
+use crate::fault::LexFault;
+use crate::front::{Front, read_front};
+use crate::source::{Source, last_line, read_source};
+use crate::token::{Origin, Token, TokenKind};
+use crate::tokens::Tokens;
+use std::alloc::Global;
+
+/// The most bytes that a file may have.
+const FILE_LIMIT: usize = 1_048_576;
+
+/// Gives the tokens of a user's file, or its first fault.
+///
+/// A fault has the line of the first place where no token stands. A file of more than 1,048,576
+/// bytes is not looked at. Memory is taken for the tokens, and for the file once more with a line for
+/// each byte.
+pub fn lex(alloc: Global, file: &[u8]) -> Result<Tokens, LexFault>
+    ensures list { IfOk result (λ tokens. tokens_of file.now ≡ Ok tokens.list.items) }
+    ensures bytes { IfOk result (λ tokens. tokens.bytes.items ≡ joined file.now) }
+    ensures cut { IfOk result (λ tokens. IsCutInto 0 tokens.bytes.items tokens.list.items) }
+    ensures too_long { IsErrOf result LexFault.TooLong ↔ (file_limit < length file.now) }
+    ensures fault { IfErr result (λ fault. fault ≢ LexFault.NoMemory → tokens_of file.now ≡ Err fault) }
+{
+    let user = Origin {
+        line: 1,
+        library: false,
+    };
+    lex_from(alloc, user, file)
+}
+
+/// Gives the tokens of a header of the library that stands at a line of a user's file, or its first
+/// fault. Names may begin with `__filc_`. Each token and each fault has that line.
+pub fn lex_library(alloc: Global, text: &[u8], line: u32) -> Result<Tokens, LexFault>
+    ensures list { IfOk result (λ tokens. library_tokens_of line text.now ≡ Ok tokens.list.items) }
+    ensures bytes { IfOk result (λ tokens. tokens.bytes.items ≡ joined text.now) }
+    ensures cut { IfOk result (λ tokens. IsCutInto 0 tokens.bytes.items tokens.list.items) }
+    ensures too_long { IsErrOf result LexFault.TooLong ↔ (file_limit < length text.now) }
+    ensures fault { IfErr result (λ fault. fault ≢ LexFault.NoMemory → library_tokens_of line text.now ≡ Err fault) }
+{
+    let header = Origin {
+        line,
+        library: true,
+    };
+    lex_from(alloc, header, text)
+}
+
+/// Gives the tokens of the bytes that come from there, or their first fault.
+fn lex_from(alloc: Global, origin: Origin, file: &[u8]) -> Result<Tokens, LexFault>
+    requires { origin.library ≡ false → origin.line ≤ 1 }
+    ensures list { IfOk result (λ tokens. tokens_with origin file.now ≡ Ok tokens.list.items) }
+    ensures bytes { IfOk result (λ tokens. tokens.bytes.items ≡ joined file.now) }
+    ensures cut { IfOk result (λ tokens. IsCutInto 0 tokens.bytes.items tokens.list.items) }
+    ensures too_long { IsErrOf result LexFault.TooLong ↔ (file_limit < length file.now) }
+    ensures fault { IfErr result (λ fault. fault ≢ LexFault.NoMemory → tokens_with origin file.now ≡ Err fault) }
+{
+    if file.len() > FILE_LIMIT {
+        return Err(LexFault::TooLong);
+    }
+    let last = last_line(origin, file);
+    let Ok(Source { bytes, lines }) = read_source(alloc, origin, file) else {
+        return Err(LexFault::NoMemory);
+    };
+    let list = scan(alloc, origin.library, last, &bytes, &lines)?;
+    Ok(Tokens { list, bytes })
+}
+
+/// Cuts the bytes into tokens, where `lines` has the line of each byte and `last` is that of the end.
+fn scan(
+    alloc: Global,
+    library: bool,
+    last: u32,
+    bytes: &[u8],
+    lines: &[u32],
+) -> Result<Vec<Token>, LexFault>
+    requires same_length { length lines.now ≡ length bytes.now }
+    requires small { length bytes.now < 2 ^ 32 }
+    ensures list { IfOk result (λ list. tokens_from library last lines.now 0 true 0 bytes.now ≡ Ok list.items) }
+    ensures cut { IfOk result (λ list. IsCutInto 0 bytes.now list.items) }
+    ensures within { IfOk result (λ list. IsTrue (all_within (length bytes.now) list.items)) }
+    ensures ends { IfOk result (λ list. IsTrue (ends_once list.items)) }
+    ensures not_too_long { IfErr result (λ fault. fault ≢ LexFault.TooLong) }
+    ensures fault { IfErr result (λ fault. fault ≢ LexFault.NoMemory → tokens_from library last lines.now 0 true 0 bytes.now ≡ Err fault) }
+{
+    let mut list = Vec::new(alloc);
+    let mut first = true;
+    let mut at = 0;
+    while at < bytes.len() {
+        let (_, text) = bytes.split_at(at);
+        let line = lines[at];
+        match read_front(library, text) {
+            Front::LineEnd => {
+                first = true;
+                at += 1;
+            }
+            Front::Blank(more) => at += 1 + more,
+            Front::Token(kind, more) => {
+                let token = Token {
+                    kind,
+                    line,
+                    start: at as u32,
+                    end: (at + 1 + more) as u32,
+                    first,
+                    library,
+                };
+                append(&mut list, token)?;
+                first = false;
+                at += 1 + more;
+            }
+            Front::Bad => return Err(LexFault::Bad(line)),
+            Front::Unclosed => return Err(LexFault::Unclosed(line)),
+            Front::Literal => return Err(LexFault::Literal(line)),
+        }
+    }
+    let end = Token {
+        kind: TokenKind::End,
+        line: last,
+        start: at as u32,
+        end: at as u32,
+        first,
+        library,
+    };
+    append(&mut list, end)?;
+    Ok(list)
+}
+
+fn append(list: &mut Vec<Token>, token: Token) -> Result<(), LexFault>
+    ensures ok { OnOk result (list.new.items ≡ list.old.items ++ token ∷ []) }
+    ensures fault { IfErr result (λ fault. fault ≡ LexFault.NoMemory) }
+{
+    match list.push(token) {
+        Ok(()) => Ok(()),
+        Err(_) => Err(LexFault::NoMemory),
+    }
+}
