@@ -1,0 +1,5 @@
+pub mod Multiples
+pub mod Layings
+pub mod LayoutsHold
+pub mod Orders
+pub mod Numberings

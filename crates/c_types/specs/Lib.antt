@@ -1,0 +1,9 @@
+pub mod Kinds
+pub mod Extents
+pub mod Sizes
+pub mod Layouts
+pub mod LayoutResults
+pub mod LayoutSteps
+pub mod LayoutLaws
+pub mod Qualifiers
+pub mod Tables

@@ -1,0 +1,168 @@
+//! Sizes and layouts worked out by hand: `int` has 4 bytes, pointers 8, and alignment equals size.
+
+ghost use Rattle.std.specs.Prelude.{◌<◌};
+
+use super::*;
+use bitflags::Flags;
+use std::test::Fail;
+
+const CHAR: CType = CType::Integer(Kind::Char);
+
+const SHORT: CType = CType::Integer(Kind::Short);
+
+const INT: CType = CType::Integer(Kind::Int);
+
+fn pointer() -> CType {
+    CType::Pointer(Part {
+        number: 0,
+        quals: Quals::CONST,
+    })
+}
+
+/// An array of `count` characters.
+fn chars(count: u64) -> CType
+    requires { 0 < count }
+{
+    let element = Part {
+        number: 0,
+        quals: Quals::empty(),
+    };
+    CType::ArrayOf(Array {
+        element,
+        extent: Extent { size: 1, align: 1 },
+        count,
+    })
+}
+
+#[test]
+fn sizes_of_types(rt: HostRuntime) {
+    let rows = [
+        ("_Bool", CType::Integer(Kind::Bool), Ok(1)),
+        ("short", SHORT, Ok(2)),
+        (
+            "unsigned long long",
+            CType::Integer(Kind::UnsignedLongLong),
+            Ok(8),
+        ),
+        ("an enumeration is an int", CType::Enumeration(0), Ok(4)),
+        ("a pointer", pointer(), Ok(8)),
+        ("void", CType::Void, Err(TypeFault::Incomplete)),
+        (
+            "a structure without contents",
+            CType::Structure(0, None),
+            Err(TypeFault::Incomplete),
+        ),
+        (
+            "a structure",
+            CType::Structure(0, Some(Extent { size: 12, align: 4 })),
+            Ok(12),
+        ),
+        ("as large as may be", chars(131_072), Ok(131_072)),
+        ("a byte too large", chars(131_073), Err(TypeFault::TooLarge)),
+        (
+            "too large for 64 bits twice",
+            chars(u64::MAX),
+            Err(TypeFault::TooLarge),
+        ),
+    ];
+    for (name, t, wanted) in rows {
+        assert_eq!(rt; size_of(&t), wanted, "{name}");
+    }
+    assert_eq!(rt;
+        align_of(&CType::Structure(0, Some(Extent { size: 12, align: 4 }))),
+        Ok(4)
+    );
+    assert_eq!(rt; align_of(&chars(3)), Ok(1));
+}
+
+#[test]
+fn a_structure_pads_between_and_behind(rt: HostRuntime) -> Result<(), Fail> {
+    let three = layout(rt.alloc(), &[CHAR, INT, pointer()])?;
+    assert_eq!(rt; three.offsets.as_slice(), [0, 4, 8].as_slice());
+    assert_eq!(rt; (three.size, three.align), (16, 8));
+    let tail = layout(rt.alloc(), &[INT, CHAR])?;
+    assert_eq!(rt; tail.offsets.as_slice(), [0, 4].as_slice());
+    assert_eq!(rt; (tail.size, tail.align), (8, 4));
+    let nested = layout(
+        rt.alloc(),
+        &[SHORT, CType::Structure(0, Some(tail.extent())), CHAR],
+    )?;
+    assert_eq!(rt; nested.offsets.as_slice(), [0, 4, 12].as_slice());
+    assert_eq!(rt; (nested.size, nested.align), (16, 4));
+    Ok(())
+}
+
+#[test]
+fn a_union_holds_its_greatest_member(rt: HostRuntime) -> Result<(), Fail> {
+    let rounded = union_layout(rt.alloc(), &[INT, chars(5)])?;
+    assert_eq!(rt; rounded.offsets.as_slice(), [0, 0].as_slice());
+    assert_eq!(rt; (rounded.size, rounded.align), (8, 4));
+    Ok(())
+}
+
+#[test]
+fn the_first_bad_member_decides(rt: HostRuntime) {
+    let large = chars(131_072);
+    let void_first = layout(rt.alloc(), &[CHAR, CType::Void, large]);
+    assert_eq!(rt; void_first.err(), Some(LayoutFault::Incomplete));
+    let large_first = layout(rt.alloc(), &[CHAR, large, CType::Void]);
+    assert_eq!(rt; large_first.err(), Some(LayoutFault::TooLarge));
+}
+
+#[test]
+fn parts_are_compared_with_and_without_qualifiers(rt: HostRuntime) {
+    let plain = Part {
+        number: 7,
+        quals: Quals::empty(),
+    };
+    let constant = Part {
+        number: 7,
+        quals: Quals::CONST | Quals::ATOMIC,
+    };
+    assert!(rt; plain.is_same_unqualified(constant));
+    assert!(rt; constant.keeps_quals_of(plain));
+    assert!(rt; !plain.keeps_quals_of(constant));
+}
+
+#[test]
+fn each_type_has_one_number(rt: HostRuntime) -> Result<(), Fail> {
+    let mut types = Types::new(rt.alloc());
+    assert!(rt; types.is_empty());
+    let int = types.number_of(Entry::OfType(INT))?;
+    let to_int = Entry::OfType(CType::Pointer(Part {
+        number: int,
+        quals: Quals::empty(),
+    }));
+    let pointer = types.number_of(to_int)?;
+    assert!(rt; pointer != int);
+    assert_eq!(rt; types.number_of(to_int)?, pointer);
+    let none = types.number_of(Entry::NoParameters)?;
+    let one = types.number_of(Entry::Parameters(int, none))?;
+    let function = CType::Function(Signature {
+        result: int,
+        parameters: one,
+        more: false,
+    });
+    assert_eq!(rt; types.number_of(Entry::OfType(function))?, 4);
+    assert_eq!(rt; types.get(4), Some(Entry::OfType(function)));
+    assert_eq!(rt; types.get(5), None);
+    Ok(())
+}
+
+#[test]
+fn a_structure_is_a_type_of_its_own(rt: HostRuntime) -> Result<(), Fail> {
+    let mut types = Types::new(rt.alloc());
+    let first = types.declare(Tag::Structure)?;
+    assert_eq!(rt;
+        types.get(first),
+        Some(Entry::OfType(CType::Structure(0, None)))
+    );
+    let mut completed = Types::new(rt.alloc());
+    let own = completed.declare(Tag::Union)?;
+    completed.complete(Tag::Union, own, Extent { size: 8, align: 4 });
+    assert_eq!(rt;
+        completed.get(own),
+        Some(Entry::OfType(CType::Union(0, Some(Extent { size: 8, align: 4 }))))
+    );
+    Ok(())
+}
