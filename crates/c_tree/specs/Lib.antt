@@ -1,0 +1,4 @@
+pub mod Plain
+pub mod Temps
+pub mod Fits
+pub mod Lists
