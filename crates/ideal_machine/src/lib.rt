@@ -1,0 +1,19 @@
+//! The abstract machine: what a thread may ask of the memory, what it may be answered, and what
+//! changes then.
+//!
+//! Its memory is as C sees it: a list of objects that only grows, the bytes put out, the threads'
+//! slots. It knows no code, no heap and no collector, and nothing is ever collected. The rest of the
+//! repository is measured against it: a run is right where its events, one after another, are
+//! allowed here.
+//!
+//! Read `specs/Memory.antt` first, then `specs/Allows.antt`. `specs/Play.antt` says what a thread
+//! is: something that asks, and goes on by the answer.
+#![tactic(auto)]
+
+mod event;
+mod value;
+mod worked;
+
+pub use event::{Access, Answer, Event, Operation, Seen};
+pub use value::{Found, Half, Kept, Value};
+pub use worked::{a_program_ends_once, main_begins_first, out_needs_its_begin};

@@ -1,0 +1,2 @@
+pub mod TreePlay
+pub mod Legal

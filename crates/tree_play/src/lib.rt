@@ -1,0 +1,8 @@
+//! The meaning of a program: what its C text asks of the abstract machine.
+//!
+//! Each construct of C has its equation in `specs/TreePlay.antt`, with no schedule, no code and no
+//! heap. `specs/Legal.antt` puts the threads' plays and the machine's transitions together: it says
+//! which histories a program may have, and what of a history the outside sees.
+//!
+//! The crate has definitions and no calls that a program makes.
+#![tactic(auto)]
