@@ -1,0 +1,4 @@
+pub mod Cuts
+pub mod Registers
+pub mod Threads
+pub mod Follow

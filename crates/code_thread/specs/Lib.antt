@@ -1,0 +1,3 @@
+pub mod Exec
+pub mod Thread
+pub mod Follows

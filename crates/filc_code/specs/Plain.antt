@@ -1,0 +1,28 @@
+-- Code as contracts see it: plain records of lists and numbers.
+use Rattle.std.specs.Prelude.{ℕ, List, Option, map, slice_get, option_and_then}
+use Rattle.filc_code.specs.declared.code.CodeFunction.{CodeFunction}
+use Rattle.filc_code.specs.declared.op.Instruction.{Instruction}
+
+-- a function: how many registers it has, how many of them are parameters, its type's number, and what it does
+pub record PlainFunction : Type 0 where
+  pub values : ℕ
+  pub parameters : ℕ
+  pub kind : ℕ
+  pub instructions : List Instruction
+
+-- the functions of a program, each at its number, and the number of `main`
+pub record PlainCode : Type 0 where
+  pub functions : List PlainFunction
+  pub main : ℕ
+
+-- a function's code, with its vector seen as a list
+abbrev pub plain_function : CodeFunction → PlainFunction
+plain_function f = record { values = f.values; parameters = f.parameters; kind = f.kind; instructions = f.instructions.items }
+
+-- the code of these functions
+abbrev pub plain_code : List CodeFunction → ℕ → PlainCode
+plain_code functions main = record { functions = map plain_function functions; main = main }
+
+-- the instruction at a place of a function
+abbrev pub instruction_at : PlainCode → ℕ → ℕ → Option Instruction
+instruction_at code function place = option_and_then (λ f. slice_get f.instructions place) (slice_get code.functions function)

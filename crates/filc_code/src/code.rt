@@ -1,0 +1,83 @@
+//! Code: functions of instructions, of which one is `main`.
+
+ghost use Rattle.std.specs.Prelude.{◌≡◌, ◌<◌, IsSomeAnd, Some, length, map, slice_get};
+ghost use Rattle.filc_code.specs.Plain.{plain_function, plain_code, instruction_at};
+ghost use Rattle.filc_code.specs.WellFormed.{IsWellFormed, IsFunctionWellFormed};
+
+use crate::op::Instruction;
+use std::marker::Model;
+
+/// A function's code. Its registers are numbered from 0, and its parameters are the first ones.
+#[derive(Debug, Drop)]
+pub struct CodeFunction {
+    /// How many registers it has.
+    pub values: u32,
+    /// How many of them are parameters.
+    pub parameters: u32,
+    /// The number of its type.
+    pub kind: u32,
+    pub instructions: Vec<Instruction>,
+}
+
+/// A whole program's code, which is well formed: nothing in it names a register, an instruction,
+/// an operator, a type or a function that isn't there.
+#[derive(Debug, Drop)]
+pub struct Code {
+    functions: Vec<CodeFunction>,
+    main: u32,
+}
+
+impl Model for Code {
+    ghost use Rattle.std.specs.Prelude.{map};
+    ghost use Rattle.filc_code.specs.Plain.{PlainCode, plain_code};
+    ghost use Rattle.filc_code.specs.WellFormed.{IsWellFormed};
+
+    ghost Value = { PlainCode };
+
+    ghost view = { λ code. plain_code code.functions.items code.main };
+
+    ghost invariant = { λ code. IsWellFormed (plain_code code.functions.items code.main) };
+}
+
+impl Code {
+    /// The code of these functions, of which `main` is the number of the first to run.
+    pub fn new(functions: Vec<CodeFunction>, main: u32) -> Code
+        requires { IsWellFormed (plain_code functions.items main) }
+        ensures { result ≡ plain_code functions.items main }
+    {
+        Code { functions, main }
+    }
+
+    /// The number of the function that a run begins with.
+    pub fn main(&self) -> u32
+        ensures value { result ≡ self.now.main }
+        ensures within { result < length self.now.functions }
+    {
+        self.main
+    }
+
+    /// The functions, each at its number.
+    pub fn functions(&self) -> &[CodeFunction]
+        ensures value { map plain_function result.now ≡ self.now.functions }
+        ensures well_formed { IsWellFormed self.now }
+    {
+        &self.functions
+    }
+
+    /// The function of this number.
+    pub fn function(&self, number: u32) -> &CodeFunction
+        requires { number < length self.now.functions }
+        ensures value { slice_get self.now.functions number ≡ Some (plain_function result.now) }
+        ensures well_formed { IsFunctionWellFormed (plain_function result.now) }
+    {
+        &self.functions[number as usize]
+    }
+
+    /// The instruction at this place of this function.
+    pub fn instruction(&self, function: u32, place: u32) -> Instruction
+        requires { IsSomeAnd (slice_get self.now.functions function) (λ f. place < length f.instructions) }
+        ensures { instruction_at self.now function place ≡ Some result }
+    {
+        self.functions[function as usize].instructions[place as usize]
+    }
+}
