@@ -1,0 +1,4 @@
+pub mod Partition
+pub mod Covers
+pub mod CellLemmas
+pub mod Apart

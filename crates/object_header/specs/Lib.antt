@@ -1,0 +1,4 @@
+pub mod WordMap
+pub mod HeapCells
+pub mod KeptMap
+pub mod Codings
