@@ -1,0 +1,6 @@
+pub mod Lone
+pub mod Gained
+pub mod Legal
+pub mod More
+pub mod Turns
+pub mod Unfinished
