@@ -1,0 +1,12 @@
+pub mod Lexing
+pub mod Digits
+pub mod Fronts
+pub mod Places
+pub mod Leaves
+pub mod Ranks
+pub mod Composed
+pub mod Worded
+pub mod Blocks
+pub mod Fitting
+pub mod Declaring
+pub mod Mains
