@@ -1,0 +1,4 @@
+pub mod Pieces
+pub mod Causes
+pub mod Words
+pub mod Clauses

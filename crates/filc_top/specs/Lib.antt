@@ -1,0 +1,5 @@
+pub mod Commands
+pub mod Endings
+pub mod Headline
+pub mod Telling
+pub mod Clauses

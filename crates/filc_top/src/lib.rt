@@ -1,0 +1,13 @@
+//! The program's one call: words and a file go in, bytes and an ending come out.
+//!
+//! Read `specs/Headline.antt` first. It says what a call does, and is a clause of `filc`.
+#![tactic(auto)]
+
+mod call;
+mod command;
+mod ending;
+mod lines;
+
+pub use call::filc;
+pub use ending::{Ending, Refusal, RefusalKind, status_of};
+pub use lines::tell;
