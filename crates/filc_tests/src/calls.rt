@@ -1,0 +1,331 @@
+//! Each row is a call on files, sinks and a source in memory.
+
+use filc_io::{MemFiles, MemSink, MemSource};
+use filc_num::Reason;
+use filc_top::{Ending, Refusal, RefusalKind, filc};
+use std::alloc::Global;
+use std::test::Fail;
+
+/// A call, and what is to come of it. The file is `a.c`.
+#[derive(Clone, Copy)]
+struct Row<'a> {
+    name: &'a str,
+    words: &'a [&'a str],
+    file: &'a [u8],
+    ending: Ending,
+    out: &'a str,
+    err: &'a str,
+}
+
+/// The calls of each device that fail, counted from 0, and how many bytes an output takes at a time.
+#[derive(Clone, Copy)]
+struct Fails<'a> {
+    files: &'a [u64],
+    out: &'a [u64],
+    most: usize,
+    err: &'a [u64],
+}
+
+const NONE: Fails = Fails {
+    files: &[],
+    out: &[],
+    most: 700,
+    err: &[],
+};
+
+const NOT_BUILT: Ending = Ending::Refused(Refusal {
+    kind: RefusalKind::Rule(0),
+    line: 1,
+});
+
+const NOT_BUILT_LINE: &str = "filc: refused: not built at line 1\n";
+
+const USAGE_LINE: &str = "filc: usage: run, threads, check or code FILE, or demo N\n";
+
+const RUN: &[&str] = &["run", "a.c"];
+
+/// Makes the call, and says whether all came as the row says.
+fn comes(alloc: Global, row: &Row<'_>, fails: &Fails<'_>) -> Result<bool, Fail> {
+    if fails.most == 0 {
+        return Ok(false);
+    }
+    let mut files = MemFiles::new(alloc, fails.files)?;
+    files.add("a.c", row.file)?;
+    let mut input = MemSource::new(alloc, b"", 1, &[])?;
+    let mut out = MemSink::new(alloc, 2_000_000, fails.most, fails.out)?;
+    let mut err = MemSink::new(alloc, 200, 200, fails.err)?;
+    let ending = filc(alloc, row.words, &mut files, &mut input, &mut out, &mut err);
+    Ok(
+        ending == row.ending
+            && out.bytes() == row.out.as_bytes()
+            && err.bytes() == row.err.as_bytes(),
+    )
+}
+
+/// A row on the words `run a.c` whose program exits.
+fn exits<'a>(name: &'a str, file: &'a str, status: u8) -> Row<'a> {
+    Row {
+        name,
+        words: RUN,
+        file: file.as_bytes(),
+        ending: Ending::Exited(status),
+        out: "",
+        err: "",
+    }
+}
+
+/// A row on the words `run a.c` whose file is refused.
+fn refused<'a>(name: &'a str, file: &'a str) -> Row<'a> {
+    Row {
+        name,
+        words: RUN,
+        file: file.as_bytes(),
+        ending: NOT_BUILT,
+        out: "",
+        err: NOT_BUILT_LINE,
+    }
+}
+
+#[test]
+fn expressions_have_their_values(rt: HostRuntime) -> Result<(), Fail> {
+    for row in [
+        exits("a number", "int main(void){return 42;}", 42),
+        exits("minus one", "int main(void){return -1;}", 255),
+        exits("the least number", "int main(void){return -2147483647;}", 1),
+        exits("brackets", "int main(void){return 2*(3+18);}", 42),
+        exits("a sum wraps", "int main(void){return 2147483647+1;}", 0),
+        exits(
+            "minus binds to the left",
+            "int main(void){return 9-3-2;}",
+            4,
+        ),
+        exits("minus a minus", "int main(void){return 9- -3;}", 12),
+        exits("less", "int main(void){return (1<2)+(2<2);}", 1),
+        exits(
+            "spaces and lines",
+            " int\nmain ( void )\n{ return\n7 ; } \n",
+            7,
+        ),
+        exits("the end of main", "int main(void){}", 0),
+    ] {
+        assert!(rt; comes(rt.alloc(), &row, &NONE)?, "{}", row.name);
+    }
+    Ok(())
+}
+
+#[test]
+fn files_without_the_form_are_refused(rt: HostRuntime) -> Result<(), Fail> {
+    for row in [
+        refused("the empty file", ""),
+        refused("a leading zero", "int main(void){return 042;}"),
+        refused("too great a number", "int main(void){return 2147483648;}"),
+        refused("two minus signs", "int main(void){return --1;}"),
+        refused("a tab", "int main(void){return\t1;}"),
+        refused("an unknown name", "int main(void){return a;}"),
+        refused("a name twice", "int main(void){int a;int a;return a;}"),
+        refused("a word of C", "int main(void){int if;return 1;}"),
+        refused(
+            "putchar is not declared",
+            "int main(void){putchar(65);return 1;}",
+        ),
+        refused("something behind", "int main(void){return 1;};"),
+    ] {
+        assert!(rt; comes(rt.alloc(), &row, &NONE)?, "{}", row.name);
+    }
+    Ok(())
+}
+
+#[test]
+fn bytes_that_are_no_text_are_refused(rt: HostRuntime) -> Result<(), Fail> {
+    let row = Row {
+        name: "bytes that are no text",
+        words: RUN,
+        file: &[255, 254, 0, 13, 10],
+        ending: NOT_BUILT,
+        out: "",
+        err: NOT_BUILT_LINE,
+    };
+    assert!(rt; comes(rt.alloc(), &row, &NONE)?, "{}", row.name);
+    Ok(())
+}
+
+#[test]
+fn statements_run(rt: HostRuntime) -> Result<(), Fail> {
+    let abc = Row {
+        name: "ABC",
+        words: RUN,
+        file: b"int putchar(int c);int main(void){int i;while(i<3){putchar(65+i);i=i+1;}return i;}",
+        ending: Ending::Exited(3),
+        out: "ABC",
+        err: "",
+    };
+    let endless = Row {
+        name: "an endless loop",
+        words: &["run", "a.c", "--turns", "1000"],
+        file: b"int main(void){while(1);}",
+        ending: Ending::Spent,
+        out: "",
+        err: "filc: turns spent\n",
+    };
+    let before = Row {
+        name: "the turns before the name",
+        words: &["run", "--turns", "1000", "a.c"],
+        file: b"int main(void){while(1);}",
+        ending: Ending::Spent,
+        out: "",
+        err: "filc: turns spent\n",
+    };
+    let block = exits(
+        "a block",
+        "int main(void){int a;{a=5;{a=a*a;}}return a;}",
+        25,
+    );
+    for row in [abc, endless, before, block] {
+        assert!(rt; comes(rt.alloc(), &row, &NONE)?, "{}", row.name);
+    }
+    Ok(())
+}
+
+#[test]
+fn other_words_are_no_command(rt: HostRuntime) -> Result<(), Fail> {
+    for (name, words) in [
+        ("no word", [].as_slice()),
+        ("run alone", ["run"].as_slice()),
+        ("another command", ["walk", "a.c"].as_slice()),
+        ("a name that is an option", ["run", "-a.c"].as_slice()),
+        ("no turns", ["run", "a.c", "--turns", "0"].as_slice()),
+        ("a leading zero", ["run", "a.c", "--turns", "07"].as_slice()),
+        (
+            "too many turns",
+            ["run", "a.c", "--turns", "1000000001"].as_slice(),
+        ),
+        ("a word too many", ["run", "a.c", "b.c"].as_slice()),
+    ] {
+        let row = Row {
+            name,
+            words,
+            file: b"int main(void){return 42;}",
+            ending: Ending::Usage,
+            out: "",
+            err: USAGE_LINE,
+        };
+        assert!(rt; comes(rt.alloc(), &row, &NONE)?, "{name}");
+    }
+    Ok(())
+}
+
+#[test]
+fn a_device_that_fails_ends_the_call(rt: HostRuntime) -> Result<(), Fail> {
+    let unread = Row {
+        name: "the file fails",
+        words: RUN,
+        file: b"int main(void){return 42;}",
+        ending: Ending::ReadFault,
+        out: "",
+        err: "filc: read fault\n",
+    };
+    let fails = Fails {
+        files: &[0],
+        ..NONE
+    };
+    assert!(rt; comes(rt.alloc(), &unread, &fails)?, "{}", unread.name);
+    let missing = Row {
+        name: "another name",
+        words: &["run", "b.c"],
+        file: b"int main(void){return 42;}",
+        ending: Ending::ReadFault,
+        out: "",
+        err: "filc: read fault\n",
+    };
+    assert!(rt; comes(rt.alloc(), &missing, &NONE)?, "{}", missing.name);
+    let untold = Row {
+        name: "the line is not written",
+        words: RUN,
+        file: b"",
+        ending: Ending::WriteFault,
+        out: "",
+        err: "",
+    };
+    let fails = Fails { err: &[0], ..NONE };
+    assert!(rt; comes(rt.alloc(), &untold, &fails)?, "{}", untold.name);
+    let unwritten = Row {
+        name: "two bytes are written, and then the output fails",
+        words: RUN,
+        file: b"int putchar(int c);int main(void){int i;while(i<3){putchar(65+i);i=i+1;}return i;}",
+        ending: Ending::WriteFault,
+        out: "AB",
+        err: "",
+    };
+    let fails = Fails {
+        out: &[1],
+        most: 2,
+        ..NONE
+    };
+    assert!(rt;
+        comes(rt.alloc(), &unwritten, &fails)?,
+        "{}",
+        unwritten.name
+    );
+    Ok(())
+}
+
+/// `return` of 1 in so many brackets.
+fn in_brackets(alloc: Global, count: usize) -> Result<Vec<u8>, Fail> {
+    let mut file = Vec::from_slice(alloc, b"int main(void){return ")?;
+    for _bracket in 0..count {
+        file.push(b'(')?;
+    }
+    file.push(b'1')?;
+    for _bracket in 0..count {
+        file.push(b')')?;
+    }
+    file.extend_from_slice(b";}")?;
+    Ok(file)
+}
+
+#[test]
+fn brackets_nest_199_deep(rt: HostRuntime) -> Result<(), Fail> {
+    let alloc = rt.alloc();
+    let most = in_brackets(alloc, 199)?;
+    let row = Row {
+        name: "199 brackets",
+        words: RUN,
+        file: &most,
+        ending: Ending::Exited(1),
+        out: "",
+        err: "",
+    };
+    assert!(rt; comes(alloc, &row, &NONE)?, "{}", row.name);
+    let more = in_brackets(alloc, 200)?;
+    let row = Row {
+        name: "200 brackets",
+        words: RUN,
+        file: &more,
+        ending: NOT_BUILT,
+        out: "",
+        err: NOT_BUILT_LINE,
+    };
+    assert!(rt; comes(alloc, &row, &NONE)?, "{}", row.name);
+    Ok(())
+}
+
+#[test]
+fn the_output_has_a_limit(rt: HostRuntime) -> Result<(), Fail> {
+    let alloc = rt.alloc();
+    let mut files = MemFiles::new(alloc, &[])?;
+    files.add(
+        "a.c",
+        b"int putchar(int c);\nint main(void){while(1)\nputchar(66);}",
+    )?;
+    files.add("zeros.c", vec![in alloc; 0; 2_097_152]?.as_slice())?;
+    let mut input = MemSource::new(alloc, b"", 1, &[])?;
+    let mut out = MemSink::new(alloc, 2_000_000, 2_000_000, &[])?;
+    let mut err = MemSink::new(alloc, 200, 200, &[])?;
+    let ending = filc(alloc, RUN, &mut files, &mut input, &mut out, &mut err);
+    assert_eq!(rt; ending, Ending::Trapped(Reason::OutputLimit, 3));
+    assert_eq!(rt; out.bytes().len(), 1_048_576);
+    let words = ["run", "zeros.c"];
+    let ending = filc(alloc, &words, &mut files, &mut input, &mut out, &mut err);
+    assert_eq!(rt; ending, NOT_BUILT);
+    Ok(())
+}
