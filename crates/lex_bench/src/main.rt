@@ -1,0 +1,23 @@
+//! Lexes a file so many times, and prints how many tokens it has: what `bench/lex` measures.
+#![tactic(auto)]
+
+use anyhow::{Context, Result};
+use std::{env, fs};
+
+fn main(rt: HostRuntime) -> Result<()> {
+    let mut words = env::args(&rt)?;
+    let _program = words.next();
+    let path = words.next().context("no file is named")?;
+    let passes = words.next().context("no number of passes")?;
+    let passes: u32 = passes.as_str().parse().context("the passes are no number")?;
+    let file = fs::read(&rt, path.as_str())?;
+    let mut tokens = 0;
+    for _ in 0..passes {
+        match c_lexer::lex(rt.alloc(), &file) {
+            Ok(list) => tokens = list.list.len(),
+            Err(fault) => anyhow::bail!("{fault}"),
+        }
+    }
+    println!(rt; "{tokens} tokens")?;
+    Ok(())
+}
