@@ -2,6 +2,7 @@ pub mod Digits
 pub mod Quotes
 pub mod Runs
 pub mod Splices
+pub mod Cursors
 pub mod Scanning
 pub mod Cases
 pub mod Lengths

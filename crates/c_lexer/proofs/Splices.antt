@@ -10,7 +10,7 @@ abbrev begins_splice : ℕ → List ℕ → Bool
 begins_splice a [] = false
 begins_splice a (b ∷ rest) = is_splice a b
 
-begins_splice-drop : (file : List ℕ) (at : ℕ) → begins_splice (get_or file at 0) (drop (at + 1) file) ≡ splice_at file at
+pub begins_splice-drop : (file : List ℕ) (at : ℕ) → begins_splice (get_or file at 0) (drop (at + 1) file) ≡ splice_at file at
 begins_splice-drop file at =
     let P : Bool → Type 0 = λ t. nat_lt (at + 1) (length file) ≡ t → begins_splice (get_or file at 0) (drop (at + 1) file) ≡ (t && is_splice (get_or file at 0) (get_or file (at + 1) 0)) in
     elim (nat_lt (at + 1) (length file)) as P [
@@ -18,23 +18,23 @@ begins_splice-drop file at =
       | false ↦ λ h. ap (begins_splice (get_or file at 0)) (drop_all (at + 1) file (ltb-false (at + 1) (length file) h))
     ] refl
 
-at_place : (file : List ℕ) (at : ℕ) → at < length file → drop at file ≡ get_or file at 0 ∷ drop (at + 1) file
+pub at_place : (file : List ℕ) (at : ℕ) → at < length file → drop at file ≡ get_or file at 0 ∷ drop (at + 1) file
 at_place file at h = drop-cons file at 0 h ∙ ap (λ k. get_or file at 0 ∷ drop k file) (sym (add-one at))
 
-two_on : (file : List ℕ) (at : ℕ) → drop 1 (drop (at + 1) file) ≡ drop (at + 2) file
+pub two_on : (file : List ℕ) (at : ℕ) → drop 1 (drop (at + 1) file) ≡ drop (at + 2) file
 two_on file at = drop-drop 1 (at + 1) file ∙ ap (λ k. drop k file) (omega arith)
 
-joined-byte : (a : ℕ) (rest : List ℕ) → begins_splice a rest ≡ false → joined (a ∷ rest) ≡ a ∷ joined rest
+pub joined-byte : (a : ℕ) (rest : List ℕ) → begins_splice a rest ≡ false → joined (a ∷ rest) ≡ a ∷ joined rest
 unfolding joined
 joined-byte a [] h = refl
 joined-byte a (b ∷ rest) h = rw h refl
 
-lines_of-byte : (library : Bool) (line a : ℕ) (rest : List ℕ) → begins_splice a rest ≡ false → lines_of library line (a ∷ rest) ≡ line ∷ lines_of library (line + lines_ended library a) rest
+pub lines_of-byte : (library : Bool) (line a : ℕ) (rest : List ℕ) → begins_splice a rest ≡ false → lines_of library line (a ∷ rest) ≡ line ∷ lines_of library (line + lines_ended library a) rest
 unfolding lines_of
 lines_of-byte library line a [] h = refl
 lines_of-byte library line a (b ∷ rest) h = rw h refl
 
-joined-splice : (a : ℕ) (rest : List ℕ) → begins_splice a rest ≡ true → joined (a ∷ rest) ≡ joined (drop 1 rest)
+pub joined-splice : (a : ℕ) (rest : List ℕ) → begins_splice a rest ≡ true → joined (a ∷ rest) ≡ joined (drop 1 rest)
 unfolding joined
 joined-splice a [] h = cc
 joined-splice a (b ∷ rest) h = rw h refl
@@ -43,7 +43,7 @@ joined-splice a (b ∷ rest) h = rw h refl
 splice_feed : (a b : ℕ) → is_splice a b ≡ true → b ≡ line_feed
 splice_feed a b h = eqb-true b line_feed (and_parts (a == backslash) (b == line_feed) h).1
 
-lines_of-splice : (library : Bool) (line a : ℕ) (rest : List ℕ) → begins_splice a rest ≡ true → lines_of library line (a ∷ rest) ≡ lines_of library (line + lines_ended library line_feed) (drop 1 rest)
+pub lines_of-splice : (library : Bool) (line a : ℕ) (rest : List ℕ) → begins_splice a rest ≡ true → lines_of library line (a ∷ rest) ≡ lines_of library (line + lines_ended library line_feed) (drop 1 rest)
 unfolding lines_of
 lines_of-splice library line a [] h = cc
 lines_of-splice library line a (b ∷ rest) h =
@@ -54,11 +54,6 @@ joined_at_splice file bytes whole at h is e =
     let here = ap joined (at_place file at h) ∙ joined-splice (get_or file at 0) (drop (at + 1) file) (begins_splice-drop file at ∙ sym is) ∙ ap joined (two_on file at) in
     ap (λ rest. bytes ++ rest) (sym here) ∙ e
 
-pub lines_at_splice : (library : Bool) (line ended : ℕ) (file lines whole : List ℕ) (at : ℕ) → at < length file → true ≡ splice_at file at → ended ≡ lines_ended library line_feed → lines ++ lines_of library line (drop at file) ≡ whole → lines ++ lines_of library (line + ended) (drop (at + 2) file) ≡ whole
-lines_at_splice library line ended file lines whole at h is ended_is e =
-    let here = ap (lines_of library line) (at_place file at h) ∙ lines_of-splice library line (get_or file at 0) (drop (at + 1) file) (begins_splice-drop file at ∙ sym is) ∙ ap (lines_of library (line + lines_ended library line_feed)) (two_on file at) in
-    ap (λ k. lines ++ lines_of library (line + k) (drop (at + 2) file)) ended_is ∙ ap (λ rest. lines ++ rest) (sym here) ∙ e
-
 -- one element more at the end, and what is left behind it
 pub pushed : (old new left left_before whole : List ℕ) (x : ℕ) → new ≡ old ++ x ∷ [] → left_before ≡ x ∷ left → old ++ left_before ≡ whole → new ++ left ≡ whole
 pushed old new left left_before whole x is before e =
@@ -68,21 +63,6 @@ pub joined_at_byte : (file : List ℕ) (at : ℕ) → at < length file → false
 joined_at_byte file at h is =
     ap joined (at_place file at h) ∙ joined-byte (get_or file at 0) (drop (at + 1) file) (begins_splice-drop file at ∙ sym is)
 
-pub lines_at_byte : (library : Bool) (line ended : ℕ) (file : List ℕ) (at : ℕ) → at < length file → false ≡ splice_at file at → ended ≡ lines_ended library (get_or file at 0) → lines_of library line (drop at file) ≡ line ∷ lines_of library (line + ended) (drop (at + 1) file)
-lines_at_byte library line ended file at h is ended_is =
-    ap (lines_of library line) (at_place file at h) ∙ lines_of-byte library line (get_or file at 0) (drop (at + 1) file) (begins_splice-drop file at ∙ sym is)
-    ∙ ap (λ k. line ∷ lines_of library (line + k) (drop (at + 1) file)) (sym ended_is)
-
 pub joined_end : (file bytes whole : List ℕ) (at : ℕ) → length file ≤ at → bytes ++ joined (drop at file) ≡ whole → bytes ≡ whole
 unfolding joined
 joined_end file bytes whole at h e = sym (append-nil bytes) ∙ ap (λ rest. bytes ++ joined rest) (sym (drop_all at file h)) ∙ e
-
-pub lines_end : (library : Bool) (line : ℕ) (file lines whole : List ℕ) (at : ℕ) → length file ≤ at → lines ++ lines_of library line (drop at file) ≡ whole → lines ≡ whole
-unfolding lines_of
-lines_end library line file lines whole at h e = sym (append-nil lines) ∙ ap (λ rest. lines ++ lines_of library line rest) (sym (drop_all at file h)) ∙ e
-
--- no byte of a header ends a line
-pub line_stays : (library : Bool) (line ended start b : ℕ) → library ≡ true → ended ≡ lines_ended library b → line ≡ start → line + ended ≡ start
-line_stays library line ended start b is ended_is e =
-    let none : ended ≡ 0 = ended_is ∙ rw is refl in
-    omega arith

@@ -1,5 +1,6 @@
 pub mod Classes
 pub mod Source
+pub mod Cursor
 pub mod Number
 pub mod Quoted
 pub mod Punct

@@ -1,18 +1,19 @@
 //! The pass over the bytes: the longest match at the front, then the rest.
 //!
-//! The file is copied once without its splices, with the line of each byte. Then each front is
-//! read where the one before it ended, so each byte is looked at a fixed number of times.
+//! The file is copied once without its splices. Then each front is read where the one before it
+//! ended, and a cursor follows in the file itself and counts its lines, so each byte is looked at a
+//! fixed number of times, and no memory is taken but for the copy and the tokens.
 
 ghost use Rattle.std.specs.Prelude.{◌≡◌, ◌≢◌, ◌↔◌, ◌+◌, ◌<◌, ◌≤◌, ◌^◌, length, true, false, IfOk, IfErr, OnOk, IsTrue, [], ◌∷◌, ◌++◌};
 ghost use Rattle.std.specs.Result.{IsErrOf};
 ghost use Rattle.c_lexer.specs.List.{all_within, ends_once};
 ghost use Rattle.c_lexer.specs.Law.{IsCutInto};
-ghost use Rattle.c_lexer.specs.Source.{joined};
+ghost use Rattle.c_lexer.specs.Source.{joined, lines_of};
 ghost use Rattle.c_lexer.specs.Tokens.{tokens_of, library_tokens_of, tokens_with, tokens_from, file_limit};
 
 use crate::fault::LexFault;
 use crate::front::{Front, read_front};
-use crate::source::{Source, last_line, read_source};
+use crate::source::{Cursor, last_line, without_splices};
 use crate::token::{Origin, Token, TokenKind};
 use crate::tokens::Tokens;
 use std::alloc::Global;
@@ -23,8 +24,7 @@ const FILE_LIMIT: usize = 1_048_576;
 /// Gives the tokens of a user's file, or its first fault.
 ///
 /// A fault has the line of the first place where no token stands. A file of more than 1,048,576
-/// bytes is not looked at. Memory is taken for the tokens, and for the file once more with a line for
-/// each byte.
+/// bytes is not looked at. Memory is taken for the tokens, and for the file once more.
 pub fn lex(alloc: Global, file: &[u8]) -> Result<Tokens, LexFault>
     ensures list { IfOk result (λ tokens. tokens_of file.now ≡ Ok tokens.list.items) }
     ensures bytes { IfOk result (λ tokens. tokens.bytes.items ≡ joined file.now) }
@@ -68,37 +68,40 @@ fn lex_from(alloc: Global, origin: Origin, file: &[u8]) -> Result<Tokens, LexFau
         return Err(LexFault::TooLong);
     }
     let last = last_line(origin, file);
-    let Ok(Source { bytes, lines }) = read_source(alloc, origin, file) else {
+    let Ok(bytes) = without_splices(alloc, file) else {
         return Err(LexFault::NoMemory);
     };
-    let list = scan(alloc, origin.library, last, &bytes, &lines)?;
+    let list = scan(alloc, origin, last, file, &bytes)?;
     Ok(Tokens { list, bytes })
 }
 
-/// Cuts the bytes into tokens, where `lines` has the line of each byte and `last` is that of the end.
+/// Cuts the bytes of the file without its splices into tokens, where `last` is the line of the end.
 fn scan(
     alloc: Global,
-    library: bool,
+    origin: Origin,
     last: u32,
+    file: &[u8],
     bytes: &[u8],
-    lines: &[u32],
 ) -> Result<Vec<Token>, LexFault>
-    requires same_length { length lines.now ≡ length bytes.now }
+    requires bytes { bytes.now ≡ joined file.now }
+    requires room { origin.library ≡ false → origin.line + length file.now < 2 ^ 32 }
     requires small { length bytes.now < 2 ^ 32 }
-    ensures list { IfOk result (λ list. tokens_from library last lines.now 0 true 0 bytes.now ≡ Ok list.items) }
+    ensures list { IfOk result (λ list. tokens_from origin.library last (lines_of origin.library origin.line file.now) 0 true 0 bytes.now ≡ Ok list.items) }
     ensures cut { IfOk result (λ list. IsCutInto 0 bytes.now list.items) }
     ensures within { IfOk result (λ list. IsTrue (all_within (length bytes.now) list.items)) }
     ensures ends { IfOk result (λ list. IsTrue (ends_once list.items)) }
     ensures not_too_long { IfErr result (λ fault. fault ≢ LexFault.TooLong) }
-    ensures fault { IfErr result (λ fault. fault ≢ LexFault.NoMemory → tokens_from library last lines.now 0 true 0 bytes.now ≡ Err fault) }
+    ensures fault { IfErr result (λ fault. fault ≢ LexFault.NoMemory → tokens_from origin.library last (lines_of origin.library origin.line file.now) 0 true 0 bytes.now ≡ Err fault) }
 {
     let mut list = Vec::new(alloc);
+    let mut cursor = Cursor::at_start(origin, file);
     let mut first = true;
     let mut at = 0;
     while at < bytes.len() {
+        cursor = cursor.forward(origin, file, at);
+        let line = cursor.line;
         let (_, text) = bytes.split_at(at);
-        let line = lines[at];
-        match read_front(library, text) {
+        match read_front(origin.library, text) {
             Front::LineEnd => {
                 first = true;
                 at += 1;
@@ -111,7 +114,7 @@ fn scan(
                     start: at as u32,
                     end: (at + 1 + more) as u32,
                     first,
-                    library,
+                    library: origin.library,
                 };
                 append(&mut list, token)?;
                 first = false;
@@ -128,7 +131,7 @@ fn scan(
         start: at as u32,
         end: at as u32,
         first,
-        library,
+        library: origin.library,
     };
     append(&mut list, end)?;
     Ok(list)
