@@ -131,9 +131,10 @@ fn splices_and_comments(rt: HostRuntime) -> Result<(), Fail> {
 
 #[test]
 fn each_fault(rt: HostRuntime) -> Result<(), Fail> {
-    let table: [(&str, &[u8], &str); 20] = [
+    let table: [(&str, &[u8], &str); 21] = [
         ("a byte of no token", b"a\n@", "Bad(2)"),
         ("a zero byte", b"\0", "Bad(1)"),
+        ("a file that ends inside a splice", b"a\n\\", "Bad(2)"),
         ("a byte over 127", b"\n\n\xff", "Bad(3)"),
         ("a backslash alone", b"\\ \n", "Bad(1)"),
         ("no splice before a carriage return", b"a\\\r\nb", "Bad(1)"),
@@ -181,6 +182,43 @@ fn one_byte_too_many(rt: HostRuntime) -> Result<(), Fail> {
     assert_eq!(rt; got.as_str(), " End1^:");
     let got = shown(rt.alloc(), &more)?;
     assert_eq!(rt; got.as_str(), "TooLong");
+    Ok(())
+}
+
+#[test]
+fn a_megabyte_of_each(rt: HostRuntime) -> Result<(), Fail> {
+    let table: [(&str, &[u8], u32, usize, u32); 4] = [
+        ("one name", b"a", 1_048_576, 2, 1),
+        ("tokens of one byte", b";", 1_048_576, 1_048_577, 1),
+        ("splices", b"\\\n", 524_288, 1, 524_288),
+        ("line feeds", b"\n", 1_048_576, 1, 1_048_576),
+    ];
+    for (name, part, times, count, last_line) in table {
+        let mut file = Vec::new(rt.alloc());
+        for _ in 0..times {
+            file.extend_from_slice(part)?;
+        }
+        let tokens = lex(rt.alloc(), &file).map_err(|_| "a fault")?;
+        assert_eq!(rt; tokens.list.len(), count, "{name}");
+        let end = tokens.list.last().ok_or("no token")?;
+        assert_eq!(rt; end.line, last_line, "{name}");
+    }
+    Ok(())
+}
+
+#[test]
+fn each_punctuator(rt: HostRuntime) -> Result<(), Fail> {
+    let all =
+        "[ ] ( ) { } . -> ++ -- & * + - ~ ! / % << >> < > <= >= == != ^ | && || ? : ; ... = *= /= %= += -= <<= >>= &= ^= |= , #";
+    let tokens = lex(rt.alloc(), all.as_bytes()).map_err(|_| "a fault")?;
+    let mut texts = all.split(' ');
+    for token in &tokens.list {
+        let text = tokens.bytes.get(token.start as usize..token.end as usize);
+        if token.kind == TokenKind::Punct {
+            assert_eq!(rt; text, texts.next().map(|text| text.as_bytes()));
+        }
+    }
+    assert_eq!(rt; texts.next(), None);
     Ok(())
 }
 
