@@ -9,9 +9,9 @@ use Rattle.c_lexer.specs.declared.token.TokenKind.{TokenKind}
 use Rattle.c_lexer.specs.declared.token.TokenKind.TheVariants.{End}
 use Rattle.c_lexer.specs.Classes.{is_blank}
 use Rattle.c_lexer.specs.Front.{front_of}
-use Rattle.c_lexer.specs.Law.{IsBlank, AreBlanks, no_blank, one_more, IsToken, IsCutInto}
+use Rattle.c_lexer.specs.Law.{IsBlank, AreBlanks, no_blank, one_more, IsToken, begins_comment, IsCutInto}
 use Rattle.c_lexer.specs.Tokens.{Outcome, with_token, token_at, after_front, tokens_from}
-use Rattle.c_lexer.proofs.Fronts.{GoodFront, front_good, front_longest}
+use Rattle.c_lexer.proofs.Fronts.{GoodFront, front_good, front_longest, front_no_comment}
 use Rattle.c_lexer.proofs.Scanning.{tokens_from-inside}
 
 -- a blank more in front
@@ -33,14 +33,15 @@ cut_blank at blank rest all (token ∷ next ∷ tokens) e is cut =
         stops = first.stops;
         kind = first.kind;
         longest = first.longest;
+        no_comment = first.no_comment;
       },
       cut.3,
     )
 
 -- a token in front
-cut_token : (at more : ℕ) (first : ℕ) (rest : List ℕ) (token : Token) (tokens : List Token) → more ≤ length rest → token.start ≡ at → token.end ≡ at + 1 + more → IsToken token.kind (first ∷ take more rest) → ((n : ℕ) (other : TokenKind) → more < n → n ≤ length rest → IsToken other (first ∷ take n rest) → ⊥) → IsCutInto (at + 1 + more) (drop more rest) tokens → IsCutInto at (first ∷ rest) (token ∷ tokens)
-cut_token at more first rest token [] h start end kind longest cut = absurd cut
-cut_token at more first rest token (next ∷ tokens) h start end kind longest cut =
+cut_token : (at more : ℕ) (first : ℕ) (rest : List ℕ) (token : Token) (tokens : List Token) → more ≤ length rest → token.start ≡ at → token.end ≡ at + 1 + more → IsToken token.kind (first ∷ take more rest) → ((n : ℕ) (other : TokenKind) → more < n → n ≤ length rest → IsToken other (first ∷ take n rest) → ⊥) → begins_comment (first ∷ rest) ≡ false → IsCutInto (at + 1 + more) (drop more rest) tokens → IsCutInto at (first ∷ rest) (token ∷ tokens)
+cut_token at more first rest token [] h start end kind longest no_comment cut = absurd cut
+cut_token at more first rest token (next ∷ tokens) h start end kind longest no_comment cut =
     let whole : (first ∷ take more rest) ++ drop more rest ≡ first ∷ rest = ap (λ xs. first ∷ xs) (take-append-drop more rest) in
     let B : List ℕ → Type 0 = λ xs. AreBlanks ((first ∷ take more rest) ++ drop more rest) xs in
     let C : ℕ → Type 0 = λ k. IsCutInto k (drop more rest) (next ∷ tokens) in
@@ -53,6 +54,7 @@ cut_token at more first rest token (next ∷ tokens) h start end kind longest cu
         stops = omega (arith, taken);
         kind = kind;
         longest = λ n other positive within is. longest (more + n) other (omega arith) (omega (arith, length-drop more rest)) (subst (IsToken other) (ap (λ xs. first ∷ xs) (sym (take-add more n rest))) is);
+        no_comment = subst (λ xs. begins_comment xs ≡ false) (sym whole) no_comment;
       },
       subst C (sym end) cut,
     )
@@ -81,7 +83,7 @@ cut_front library line at first b rest (front.Token kind more) behind tokens e g
     let token = token_at library line first kind at (at + 1 + more) in
     let parts = with_ok token (behind false more) tokens h in
     let longest = λ (n : ℕ) (other : TokenKind) (less : more < n) (within : n ≤ length rest) (is : IsToken other (b ∷ take n rest)). front_longest library b rest kind more n other e less within is in
-    subst (IsCutInto at (b ∷ rest)) (sym parts.2) (cut_token at more b rest token parts.0 good.1 refl refl good.0 longest (cut false more parts.0 good.1 parts.1))
+    subst (IsCutInto at (b ∷ rest)) (sym parts.2) (cut_token at more b rest token parts.0 good.1 refl refl good.0 longest (front_no_comment library b rest kind more e) (cut false more parts.0 good.1 parts.1))
 cut_front library line at first b rest front.Bad behind tokens e good h cut = cc
 cut_front library line at first b rest front.Unclosed behind tokens e good h cut = cc
 cut_front library line at first b rest front.Literal behind tokens e good h cut = cc

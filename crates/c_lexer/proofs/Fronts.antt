@@ -15,7 +15,7 @@ use Rattle.c_lexer.specs.Classes.{line_feed, slash, star, single_quote, double_q
 use Rattle.c_lexer.specs.Quoted.{closing, values_of}
 use Rattle.c_lexer.specs.Punct.{punct_length, is_punct_of_one, is_punct_of_two, is_punct_of_three}
 use Rattle.c_lexer.specs.Front.{comment_rest, quoted_kind, quoted_token, quoted_front, comment_front, slash_front, punct_front, front_of}
-use Rattle.c_lexer.specs.Law.{IsBlank, IsToken, IsPunct}
+use Rattle.c_lexer.specs.Law.{IsBlank, IsToken, IsPunct, begins_comment}
 use Rattle.c_lexer.proofs.Cases.{by_test, front_cases, front_letter, front_digit, front_double, front_single, front_punct, any_all}
 use Rattle.c_lexer.proofs.Lengths.{run_all, run_fits, line_ends, comment_take, closing_take, one_more_taken, one_more_dropped}
 
@@ -206,3 +206,31 @@ front_longest library first rest kind more n Punct e less within is =
     let fits = punct_fits first n rest (omega arith) within is in
     absurd (omega (arith, fits.1, front_punct_more library first rest kind more fits.0 e))
 front_longest library first rest kind more n End e less within is = is
+
+front_slash : (library : Bool) (rest : List ℕ) → front_of library slash rest ≡ slash_front rest
+unfolding front_of
+front_slash library rest = refl
+
+-- no token stands where a comment begins
+pub front_no_comment : (library : Bool) (first : ℕ) (rest : List ℕ) (kind : TokenKind) (more : ℕ) → front_of library first rest ≡ front.Token kind more → begins_comment (first ∷ rest) ≡ false
+front_no_comment library first [] kind more e = refl
+front_no_comment library first (second ∷ rest) kind more e = by_slash (first == slash) refl
+  where
+    P : Front → Type 0
+    P f = f ≡ front.Token kind more → (second == slash || second == star) ≡ false
+
+    no_rest : (o : Option ℕ) → P (comment_front o)
+    no_rest None f = cc
+    no_rest (Some size) f = cc
+
+    behind_slash : slash_front (second ∷ rest) ≡ front.Token kind more → (second == slash || second == star) ≡ false
+    behind_slash =
+        by_test P (second == star) (comment_front (comment_rest false rest)) _ (λ _. no_rest (comment_rest false rest)) (λ no_star.
+        by_test P (second == slash) (front.Blank (position_or_len (λ b. b == line_feed) rest + 1)) _ (λ _ f. cc) (λ no_slash f. rw (no_slash, no_star) refl))
+
+    by_slash : (t : Bool) → (first == slash) ≡ t → begins_comment (first ∷ second ∷ rest) ≡ false
+    by_slash false h = rw h refl
+    by_slash true h =
+        let here = sym (front_slash library (second ∷ rest)) ∙ ap (λ b. front_of library b (second ∷ rest)) (sym (eqb-true first slash h)) ∙ e in
+        let behind = behind_slash here in
+        rw (h, behind) refl

@@ -2,8 +2,9 @@
 --
 -- Nothing is lost: white space, comments and the texts of the tokens, put together in order, are the
 -- bytes. Each token's text is one of its kind, and it is the longest: with one or more of the bytes
--- behind it, it is no token of any kind.
-use Rattle.std.specs.Prelude.{◌≡◌, ℕ, ◌+◌, ◌<◌, ◌≤◌, ◌==◌, ◌||◌, not, Bool, false, IsTrue, List, [], ◌∷◌, ◌++◌, ◌⊎◌, length, take, Some}
+-- behind it, it is no token of any kind. No token stands where a comment begins. So the kinds and the
+-- places of the tokens are settled; of lines and marks the law says nothing.
+use Rattle.std.specs.Prelude.{◌≡◌, ℕ, ◌+◌, ◌<◌, ◌≤◌, ◌==◌, ◌&&◌, ◌||◌, not, Bool, false, IsTrue, List, [], ◌∷◌, ◌++◌, ◌⊎◌, length, take, Some}
 use Rattle.std.specs.List.{list_all}
 use Rattle.std.specs.Option.{option_map}
 use Rattle.std.specs.Char.{is_ascii_digit}
@@ -46,6 +47,12 @@ IsToken End text = ⊥
 abbrev pub IsLongest : List ℕ → List ℕ → Type 0
 IsLongest text rest = (more : ℕ) (kind : TokenKind) → 0 < more → more ≤ length rest → ¬ IsToken kind (text ++ take more rest)
 
+-- the bytes begin as a comment does
+abbrev pub begins_comment : List ℕ → Bool
+begins_comment [] = false
+begins_comment (a ∷ []) = false
+begins_comment (a ∷ b ∷ rest) = a == slash && (b == slash || b == star)
+
 -- a line ends before these bytes
 abbrev pub EndsLine : List ℕ → Type 0
 EndsLine [] = Unit {0}
@@ -71,6 +78,7 @@ pub record IsFirst (token : Token) (at : ℕ) (bytes text rest : List ℕ) : Typ
   pub stops : token.end ≡ token.start + length text
   pub kind : IsToken token.kind text
   pub longest : IsLongest text rest
+  pub no_comment : begins_comment (text ++ rest) ≡ false
 
 -- the End stands behind blanks, at the end
 pub record IsLast (token : Token) (at : ℕ) (bytes : List ℕ) : Type 0 where

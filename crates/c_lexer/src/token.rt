@@ -21,7 +21,8 @@ pub enum TokenKind {
 #[derive(Clone, Copy, Debug, PartialEq, Eq)]
 pub struct Token {
     pub kind: TokenKind,
-    /// The line of its first byte in the file, from 1; the line of the file's last byte at the end.
+    /// The line of its first byte in the file, from 1. The end has the line of the file's last byte,
+    /// and 1 in an empty file. In a header of the library, the line where the header stands.
     pub line: u32,
     /// Its text is the bytes from `start` to `end`, in the file without its splices.
     pub start: u32,
