@@ -9,7 +9,7 @@ ghost use Rattle.std.specs.Result.{IsErrOf};
 ghost use Rattle.c_lexer.specs.List.{all_within, ends_once};
 ghost use Rattle.c_lexer.specs.Law.{IsCutInto};
 ghost use Rattle.c_lexer.specs.Source.{joined, lines_of};
-ghost use Rattle.c_lexer.specs.Tokens.{tokens_of, library_tokens_of, tokens_with, tokens_from, file_limit};
+ghost use Rattle.c_lexer.specs.Tokens.{tokens_of, library_tokens_of, token_at, tokens_with, tokens_from, file_limit};
 
 use crate::fault::LexFault;
 use crate::front::{Front, read_front};
@@ -108,14 +108,7 @@ fn scan(
             }
             Front::Blank(more) => at += 1 + more,
             Front::Token(kind, more) => {
-                let token = Token {
-                    kind,
-                    line,
-                    start: at as u32,
-                    end: (at + 1 + more) as u32,
-                    first,
-                    library: origin.library,
-                };
+                let token = token_at(origin, line, first, kind, at, at + 1 + more);
                 append(&mut list, token)?;
                 first = false;
                 at += 1 + more;
@@ -125,16 +118,32 @@ fn scan(
             Front::Literal => return Err(LexFault::Literal(line)),
         }
     }
-    let end = Token {
-        kind: TokenKind::End,
-        line: last,
-        start: at as u32,
-        end: at as u32,
-        first,
-        library: origin.library,
-    };
+    let end = token_at(origin, last, first, TokenKind::End, at, at);
     append(&mut list, end)?;
     Ok(list)
+}
+
+/// The token from `start` to `end`.
+fn token_at(
+    origin: Origin,
+    line: u32,
+    first: bool,
+    kind: TokenKind,
+    start: usize,
+    end: usize,
+) -> Token
+    requires start { start < 2 ^ 32 }
+    requires end { end < 2 ^ 32 }
+    ensures { result ≡ token_at origin.library line first kind start end }
+{
+    Token {
+        kind,
+        line,
+        start: start as u32,
+        end: end as u32,
+        first,
+        library: origin.library,
+    }
 }
 
 fn append(list: &mut Vec<Token>, token: Token) -> Result<(), LexFault>

@@ -44,15 +44,16 @@ loop-at-preserved c =
     let a = c.args in
     let lines = lines_of a.origin.library a.origin.line a.file.now in
     let more = c.in-Token.more in
+    let pushed = c.in_ok-append-in-Token.ensures.ok ∙ ap (λ token. l.list.items ++ token ∷ []) c.token_at-token.ensures in
     let line_is : c.forward-cursor.result.line ≡ get_or lines l.at 0 = c.forward-cursor.ensures.line (subst (λ xs. l.at < length xs) c.requires.bytes (omega arith)) in
     let room : l.at + (1 + more) ≤ length a.bytes.now = omega (arith, c.in-Token.ensures.within, c.split_at.ensures.back_len) in
     record {
       is_at = c.forward-cursor.ensures.at;
       before = omega (arith, c.forward-cursor.ensures.byte);
       within = room;
-      told = on_token a.origin.library a.last lines l.at (l.at + (1 + more)) l.first c.in-Token.kind more a.bytes.now l.list.items _ _ (omega arith) room (rw c.split_at.ensures.back at c.in-Token.ensures.value) (c.in_ok-append-in-Token.ensures.ok ∙ ap (λ line. l.list.items ++ token_at a.origin.library line l.first c.in-Token.kind l.at (l.at + 1 + more) ∷ []) line_is) l.invariant.told;
-      slices = all_more (λ token. nat_le token.start token.end && nat_le token.end (length a.bytes.now)) l.list.items _ _ c.in_ok-append-in-Token.ensures.ok l.invariant.slices (is_slice (length a.bytes.now) l.at (l.at + 1 + more) (omega arith) (omega arith));
-      no_end = all_more (λ token. not (is_end token.kind)) l.list.items _ _ c.in_ok-append-in-Token.ensures.ok l.invariant.no_end (ap not c.in-Token.ensures.no_end);
+      told = on_token a.origin.library a.last lines l.at (l.at + (1 + more)) l.first c.in-Token.kind more a.bytes.now l.list.items _ _ (omega arith) room (rw c.split_at.ensures.back at c.in-Token.ensures.value) (pushed ∙ ap (λ line. l.list.items ++ token_at a.origin.library line l.first c.in-Token.kind l.at (l.at + 1 + more) ∷ []) line_is) l.invariant.told;
+      slices = all_more (λ token. nat_le token.start token.end && nat_le token.end (length a.bytes.now)) l.list.items _ _ pushed l.invariant.slices (is_slice (length a.bytes.now) l.at (l.at + 1 + more) (omega arith) (omega arith));
+      no_end = all_more (λ token. not (is_end token.kind)) l.list.items _ _ pushed l.invariant.no_end (ap not c.in-Token.ensures.no_end);
     }
 
 pub returns-in-Bad-clause-fault : goal.returns-in-Bad-clause-fault
@@ -84,12 +85,12 @@ returns-clause-list c =
     let l = c.loop-at in
     let a = c.args in
     let lines = lines_of a.origin.library a.origin.line a.file.now in
-    on_end a.origin.library a.last lines l.at l.first a.bytes.now l.list.items _ _ (omega arith) c.in_ok-append.ensures.ok l.invariant.told
+    on_end a.origin.library a.last lines l.at l.first a.bytes.now l.list.items _ _ (omega arith) (c.in_ok-append.ensures.ok ∙ ap (λ token. l.list.items ++ token ∷ []) c.token_at-end.ensures) l.invariant.told
 
 pub returns-clause-ends : goal.returns-clause-ends
 returns-clause-ends c =
     let l = c.loop-at in
-    ends l.list.items _ _ c.in_ok-append.ensures.ok l.invariant.no_end refl
+    ends l.list.items _ _ (c.in_ok-append.ensures.ok ∙ ap (λ token. l.list.items ++ token ∷ []) c.token_at-end.ensures) l.invariant.no_end refl
 
 pub returns-clause-cut : goal.returns-clause-cut
 returns-clause-cut c = cut_into_tokens c.args.origin.library c.args.last (lines_of c.args.origin.library c.args.origin.line c.args.file.now) c.args.bytes.now _ (returns-clause-list c)
