@@ -2,3 +2,4 @@ pub mod Partition
 pub mod Covers
 pub mod CellLemmas
 pub mod Apart
+pub mod Contents

@@ -2,3 +2,4 @@ pub mod WordMap
 pub mod HeapCells
 pub mod KeptMap
 pub mod Codings
+pub mod Contents

@@ -7,7 +7,7 @@
 --
 -- A part is one word's use. `place_of` says where a part lies, and `IsPartition` that the parts of
 -- a map are disjoint and cover it.
-use Rattle.std.specs.Prelude.{◌≡◌, ℕ, ◌+◌, ◌*◌, ◌^◌, ◌<◌, ◌≤◌, Bool, true, ◌&&◌, nat_lt, IsTrue, List, [], ◌∷◌, length, take, sum_by, slice_index_or, if◌then◌else◌}
+use Rattle.std.specs.Prelude.{◌≡◌, ℕ, ◌+◌, ◌-◌, ◌*◌, ◌%◌, ◌^◌, ◌<◌, ◌≤◌, Bool, true, ◌&&◌, nat_lt, IsTrue, List, [], ◌∷◌, length, take, sum_by, slice_index_or, if◌then◌else◌}
 use Rattle.std.specs.List.{list_all}
 use Rattle.object_header.specs.declared.words.FixedWord.{FixedWord}
 use Rattle.object_header.specs.declared.words.FixedWord.TheVariants.{Exit, Order, Cycle, Request, GreyHead, OutputHint, InputPlace, Unused}
@@ -78,6 +78,14 @@ place_of_slot slots slot word = 8 + slots + 5 * slot + slot_word_number word
 abbrev pub place_of_output : ℕ → ℕ → ℕ
 place_of_output slots index = 8 + 6 * slots + index
 
+-- the place of a header word, where the first payload word has this place
+abbrev pub place_of_header : ℕ → HeaderWord → ℕ
+place_of_header place word = place - 5 + header_word_number word
+
+-- the place of a word, counted from the first one; it is reckoned in 64 bits
+abbrev pub place_of_word : ℕ → ℕ → ℕ
+place_of_word first word = (first + word) % 2 ^ 64
+
 -- how many words a static takes, with its header and its table
 abbrev pub static_size : StaticSize → ℕ
 static_size s = 5 + s.words + (if s.table then s.words else 0)
@@ -93,9 +101,13 @@ cells_start l = statics_start l + sum_by static_size l.statics
 abbrev pub class_at : List (ℕ × ℕ) → ℕ → ℕ × ℕ
 class_at classes class = slice_index_or classes class (0, 0)
 
+-- how many words a cell of a class takes, with its header
+abbrev pub cell_size : ℕ × ℕ → ℕ
+cell_size class = class.0 + 5
+
 -- how many words the cells of a class take, with their headers
 abbrev pub class_size : ℕ × ℕ → ℕ
-class_size class = class.1 * (class.0 + 5)
+class_size class = class.1 * cell_size class
 
 -- how many words the cells of these classes take
 abbrev pub words_together : List (ℕ × ℕ) → ℕ
@@ -112,7 +124,7 @@ static_at statics index = slice_index_or statics index (record { words = 0; tabl
 -- where a cell begins among the cells, with its header
 abbrev pub cell_offset : List (ℕ × ℕ) → ℕ → ℕ → ℕ
 cell_offset classes class cell =
-    words_together (take class classes) + cell * ((class_at classes class).0 + 5)
+    words_together (take class classes) + cell * cell_size (class_at classes class)
 
 -- where a site begins, with its header
 abbrev pub site_start : Layout → Site → ℕ

@@ -2,7 +2,7 @@
 //!
 //! A piece of work that goes through cells keeps a copy of this, and no reference to the map.
 ghost use Rattle.std.specs.Prelude.{◌≡◌, ℕ, ◌+◌, ◌^◌, ◌<◌, ◌≤◌, ◌↔◌, List, length, take, All, Some, IfSome, IsNone};
-ghost use Rattle.object_header.specs.WordMap.{words_together, class_at, class_size, cell_offset, IsCell};
+ghost use Rattle.object_header.specs.WordMap.{words_together, class_at, cell_size, class_size, cell_offset, IsCell};
 
 use crate::words::HEADER;
 
@@ -59,6 +59,14 @@ impl Cells {
         ensures { result ≡ (class_at (classes_in self.now) class).1 }
     {
         self.class(class).1
+    }
+
+    /// How many words a cell of the class takes, with its header.
+    pub fn size(&self, class: u32) -> u64
+        requires { class < length (classes_in self.now) }
+        ensures { result ≡ cell_size (class_at (classes_in self.now) class) }
+    {
+        u64::from(self.payload_words(class)) + HEADER
     }
 
     /// The least class whose cells hold that many words.
@@ -119,14 +127,6 @@ impl Cells {
         ensures { result ≡ class_at (classes_in self.now) class }
     {
         self.classes[class as usize]
-    }
-
-    /// How many words a cell of the class takes, with its header.
-    fn size(&self, class: u32) -> u64
-        requires { class < length (classes_in self.now) }
-        ensures { result ≡ (class_at (classes_in self.now) class).0 + 5 }
-    {
-        u64::from(self.payload_words(class)) + HEADER
     }
 
     /// How many words the class's cells take, with their headers.

@@ -11,6 +11,7 @@
 mod cap;
 mod cells;
 mod codings;
+mod laws;
 mod map;
 #[cfg(test)]
 mod tests;
@@ -23,11 +24,12 @@ pub use codings::{
     exit_word, output_word, size_word, slot_state_of, slot_state_word, state_of, state_word,
     thread_id, thread_of,
 };
+pub use laws::{one_word_is_one_part, parts_cover_the_map, places_need_no_map};
 pub use map::Map;
 use std::alloc::AllocError;
 pub use words::{
     FixedWord, HeaderWord, SlotWord, StaticSize, acknowledgement_place, fixed_place, header_place,
-    output_place, slot_place,
+    output_place, slot_place, word_place,
 };
 
 /// Want of memory.

@@ -124,6 +124,13 @@ impl Map {
         self.cells
     }
 
+    /// A map is as runs have it. This does no work: who calls it learns that.
+    pub fn is_well_formed(&self)
+        ensures { IsWellFormed self.now }
+    {
+        let _ = &self.cells;
+    }
+
     /// How many words there are. The parts of the map are disjoint and cover them.
     pub fn words(&self) -> u64
         ensures words { result ≡ words_of self.now }

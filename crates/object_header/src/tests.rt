@@ -35,6 +35,7 @@ fn statics_and_cells_have_their_places(rt: HostRuntime) -> Result<(), Fail> {
     assert_eq!(rt; address_of(first), 8_454_688);
     assert_eq!(rt; function_address(0), 16);
     assert_eq!(rt; cap_word(Cap::Object(first)), 4_194_576);
+    assert_eq!(rt; cells.size(1), 9);
     assert_eq!(rt; cells.class_of(3), Some(1));
     assert_eq!(rt; cells.class_of(9), None);
     assert_eq!(rt; cells.cell_of(first), Some((0, 0)));

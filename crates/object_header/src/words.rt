@@ -1,6 +1,6 @@
 //! The words whose places need no map: the single words, and those of slots, output and headers.
-ghost use Rattle.std.specs.Prelude.{◌≡◌, ◌+◌, ◌≤◌};
-ghost use Rattle.object_header.specs.WordMap.{place_of_fixed, place_of_acknowledgement, place_of_slot, place_of_output, slot_word_number, header_word_number, static_size};
+ghost use Rattle.std.specs.Prelude.{◌≡◌};
+ghost use Rattle.object_header.specs.WordMap.{place_of_fixed, place_of_acknowledgement, place_of_slot, place_of_output, place_of_header, place_of_word, static_size};
 
 /// The single words at the front of the map.
 #[derive(Clone, Copy, Debug, PartialEq, Eq)]
@@ -105,8 +105,14 @@ pub fn output_place(slots: u32, index: u32) -> u64
 
 /// The place of a header word of the object or cell whose first payload word has this place.
 pub fn header_place(place: u64, word: HeaderWord) -> u64
-    requires { 5 ≤ place }
-    ensures { result + 5 ≡ place + header_word_number word }
+    ensures { result ≡ place_of_header place word }
 {
-    place - HEADER + word as u64
+    place.saturating_sub(HEADER) + word as u64
+}
+
+/// The place of a word of an object, a cell or a table whose first word has this place.
+pub fn word_place(first: u64, word: u32) -> u64
+    ensures { result ≡ place_of_word first word }
+{
+    first.wrapping_add(u64::from(word))
 }

@@ -1,0 +1,4 @@
+pub mod Halves
+pub mod ReadHalf
+pub mod WriteHalf
+pub mod Install

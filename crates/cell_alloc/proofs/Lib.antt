@@ -1,0 +1,9 @@
+pub mod Once
+pub mod ClaimSteps
+pub mod InClass
+pub mod Claiming
+pub mod Passing
+pub mod PayloadWords
+pub mod PublishSteps
+pub mod Published
+pub mod Order

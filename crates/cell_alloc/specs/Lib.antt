@@ -1,0 +1,5 @@
+pub mod Claim
+pub mod KeepsGoing
+pub mod Claims
+pub mod Publish
+pub mod Publishing

@@ -1,0 +1,7 @@
+pub mod Output
+pub mod PutByte
+pub mod GetByte
+pub mod BeginThread
+pub mod Finish
+pub mod InOrder
+pub mod Going
