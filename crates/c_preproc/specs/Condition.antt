@@ -1,8 +1,8 @@
 -- A condition: its tree, and the value of the tree in 64 bits.
 --
 -- The operators and their levels are C's, without the comma and without assignments. Only what C
--- evaluates counts: the right side of && and ||, and the side of ? : that isn't chosen, have a kind
--- but no value.
+-- evaluates counts: of the right side of && and ||, where the left one decides, and of the side of ? :
+-- that isn't chosen, the kind matters and not whether it has a value.
 use Rattle.std.specs.Prelude.{codes, ℕ, zero, suc, ◌+◌, ◌-◌, ◌*◌, ◌^◌, Bool, true, false, cond, not, ◌&&◌, ◌||◌, ◌==◌, nat_lt, List, [], ◌∷◌, length, drop, Option, Some, None}
 use Rattle.std.specs.List.{list_any}
 use Rattle.std.specs.Option.{option_map, option_and_then}
@@ -162,12 +162,13 @@ read_tree (suc steps) (Level (suc level)) items =
     (then_read (read_tree steps (Level (suc (suc level))) items) (λ left rest. read_tree steps (Chain (suc level) left) rest))
 read_tree (suc steps) (Chain level left) items = chained (read_tree steps) level left items
 
--- the tree that all the items spell: no item needs more than a step for each level and one for itself
+-- the tree, where nothing is left behind it
 abbrev pub whole_tree : Read → Option Tree
 whole_tree None = None
 whole_tree (Some (tree, [])) = Some tree
 whole_tree (Some (tree, (item ∷ items))) = None
 
+-- the tree that all the items spell: no item needs more than a step for each level and one for itself
 abbrev pub tree_of : List Item → Option Tree
 tree_of items = whole_tree (read_tree (16 * (length items + 1)) (Level 0) items)
 

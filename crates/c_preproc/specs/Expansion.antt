@@ -7,8 +7,11 @@ use Rattle.std.specs.List.{filter}
 use Rattle.std.specs.Option.{option_map, option_and_then}
 use Rattle.c_lexer.specs.declared.token.Token.{Token}
 use Rattle.c_lexer.specs.declared.token.TokenKind.TheVariants.{Number, End}
+use Rattle.c_preproc.specs.declared.condition.Piece.{Piece}
+use Rattle.c_preproc.specs.declared.condition.Piece.TheVariants.{Known, Word}
 use Rattle.c_preproc.specs.declared.fault.PreFault.{PreFault}
 use Rattle.c_preproc.specs.declared.fault.PreFault.TheVariants as fault
+use Rattle.c_preproc.specs.declared.state.Group.{Group}
 use Rattle.c_preproc.specs.Texts.{text_of, same_text, same_tokens, same_kind, is_name, is_word, is_mark}
 use Rattle.c_preproc.specs.Directives.{Block, Directive, Plain, blocks_of, Command, Nothing, Include, Define, Undefine, If, IfDefined, IfUndefined, ElseIf, Else, EndIf, Pragma, Unknown, command_of}
 use Rattle.c_preproc.specs.Macros.{Macro, macro_of, expansion_of_token}
@@ -23,11 +26,6 @@ abbrev pub token_limit : ℕ
 token_limit = 4194304
 
 -- ---- conditions
-
--- a token of a condition: what `defined` says of a name, or another token
-pub data Piece : Type 0 where
-  Known : Bool → Piece
-  Word : Token → Piece
 
 abbrev pub is_defined : List ℕ → List Macro → Token → Bool
 is_defined bytes macros name = is_some (macro_of macros (text_of bytes name))
@@ -47,33 +45,33 @@ pieces_of bytes macros inside [] = Some []
 pieces_of bytes macros (suc inside) (token ∷ tokens) = pieces_of bytes macros inside tokens
 pieces_of bytes macros zero (token ∷ tokens) =
     cond (is_word bytes token (codes "defined"))
-    (option_and_then (λ (name, count). option_map (λ pieces. Known (is_defined bytes macros name) ∷ pieces) (pieces_of bytes macros count tokens)) (asked bytes tokens))
+    (option_and_then (λ (name, count). option_map (λ pieces. Known (is_defined bytes macros name) token.line ∷ pieces) (pieces_of bytes macros count tokens)) (asked bytes tokens))
     (option_map (λ pieces. Word token ∷ pieces) (pieces_of bytes macros 0 tokens))
 
 abbrev pub piece_expansion : List ℕ → List Macro → Piece → List Piece
-piece_expansion bytes macros (Known b) = Known b ∷ []
+piece_expansion bytes macros (Known b line) = Known b line ∷ []
 piece_expansion bytes macros (Word token) = map Word (expansion_of_token bytes macros token)
 
 -- the item of a piece
 abbrev pub item_of : List ℕ → Piece → Option Item
-item_of bytes (Known b) = Some (Operand (cond b 1 0) false)
+item_of bytes (Known b line) = Some (Operand (cond b 1 0) false)
 item_of bytes (Word token) = item_of_kind token.kind (text_of bytes token)
 
 abbrev pub items_of : List ℕ → List Piece → Option (List Item)
 items_of bytes [] = Some []
 items_of bytes (piece ∷ pieces) = option_and_then (λ item. option_map (λ items. item ∷ items) (items_of bytes pieces)) (item_of bytes piece)
 
-abbrev pub line_of_piece : ℕ → Piece → ℕ
-line_of_piece line (Known b) = line
-line_of_piece line (Word token) = token.line
+abbrev pub line_of_piece : Piece → ℕ
+line_of_piece (Known b line) = line
+line_of_piece (Word token) = token.line
 
 -- the expanded pieces, or the line of the piece whose expansion passes the limit
-unfoldable pub expanded_pieces : List ℕ → List Macro → ℕ → ℕ → List Piece → Result (List Piece) ℕ
-expanded_pieces bytes macros line count [] = Ok []
-expanded_pieces bytes macros line count (piece ∷ pieces) =
+unfoldable pub expanded_pieces : List ℕ → List Macro → ℕ → List Piece → Result (List Piece) ℕ
+expanded_pieces bytes macros count [] = Ok []
+expanded_pieces bytes macros count (piece ∷ pieces) =
     let out = piece_expansion bytes macros piece in
-    cond (nat_lt token_limit (count + length out)) (Err (line_of_piece line piece))
-    (put out (expanded_pieces bytes macros line (count + length out) pieces))
+    cond (nat_lt token_limit (count + length out)) (Err (line_of_piece piece))
+    (put out (expanded_pieces bytes macros (count + length out) pieces))
   where
     put : List Piece → Result (List Piece) ℕ → Result (List Piece) ℕ
     put out (Ok behind) = Ok (out ++ behind)
@@ -89,19 +87,13 @@ truth_of_expanded bytes line (Ok pieces) = or_directive line (option_and_then tr
 
 abbrev pub truth_of_pieces : List ℕ → List Macro → ℕ → Option (List Piece) → Result Bool PreFault
 truth_of_pieces bytes macros line None = Err (fault.Directive line)
-truth_of_pieces bytes macros line (Some pieces) = truth_of_expanded bytes line (expanded_pieces bytes macros line 0 pieces)
+truth_of_pieces bytes macros line (Some pieces) = truth_of_expanded bytes line (expanded_pieces bytes macros 0 pieces)
 
 -- whether a condition holds
 abbrev pub condition_of : List ℕ → List Macro → ℕ → List Token → Result Bool PreFault
 condition_of bytes macros line tokens = truth_of_pieces bytes macros line (pieces_of bytes macros 0 tokens)
 
 -- ---- one directive after another
-
--- an open `if`: whether it stands in an active group, whether its group is active now, and whether one of its groups was
-pub record Group : Type 0 where
-  pub stands_active : Bool
-  pub active : Bool
-  pub had : Bool
 
 -- the macros that are defined, the open `if`s, innermost first, and the number of tokens so far
 pub record State : Type 0 where

@@ -1,11 +1,7 @@
 -- Conditional groups, by nesting alone.
 use Rattle.std.specs.Prelude.{ℕ, min, Bool, true, false, cond, List, [], ◌∷◌, Option, Some, None}
+use Rattle.c_preproc.specs.declared.groups.Open.{Open}
 use Rattle.c_preproc.specs.Directives.{Block, Directive, Plain, Command, Nothing, Include, Define, Undefine, If, IfDefined, IfUndefined, ElseIf, Else, EndIf, Pragma, Unknown, command_of}
-
--- an `if` that is open: its line, and whether its `else` came
-pub record Open : Type 0 where
-  pub line : ℕ
-  pub closing : Bool
 
 -- the earlier of two lines
 abbrev pub earlier : Option ℕ → Option ℕ → Option ℕ
@@ -23,7 +19,7 @@ outermost (o ∷ p ∷ rest) = outermost (p ∷ rest)
 abbrev pub part : ℕ → Bool → List Open → (List Open → Option ℕ) → Option ℕ
 part line is_else [] next = Some line
 part line is_else (o ∷ open_ifs) next =
-    earlier (cond o.closing (Some line) None) (next (record o { closing = cond is_else true o.closing } ∷ open_ifs))
+    earlier (cond o.has_else (Some line) None) (next (record o { has_else = cond is_else true o.has_else } ∷ open_ifs))
 
 abbrev pub after_end : ℕ → List Open → (List Open → Option ℕ) → Option ℕ
 after_end line [] next = Some line
@@ -31,9 +27,9 @@ after_end line (o ∷ open_ifs) next = next open_ifs
 
 -- what a directive does to the open `if`s
 abbrev pub nested : ℕ → Command → List Open → (List Open → Option ℕ) → Option ℕ
-nested line (If tokens) open_ifs next = next (record { line = line; closing = false } ∷ open_ifs)
-nested line (IfDefined tokens) open_ifs next = next (record { line = line; closing = false } ∷ open_ifs)
-nested line (IfUndefined tokens) open_ifs next = next (record { line = line; closing = false } ∷ open_ifs)
+nested line (If tokens) open_ifs next = next (record { line = line; has_else = false } ∷ open_ifs)
+nested line (IfDefined tokens) open_ifs next = next (record { line = line; has_else = false } ∷ open_ifs)
+nested line (IfUndefined tokens) open_ifs next = next (record { line = line; has_else = false } ∷ open_ifs)
 nested line (ElseIf tokens) open_ifs next = part line false open_ifs next
 nested line (Else tokens) open_ifs next = part line true open_ifs next
 nested line (EndIf tokens) open_ifs next = after_end line open_ifs next

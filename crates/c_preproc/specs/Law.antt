@@ -1,13 +1,19 @@
 -- What expansion leaves alone: tokens of which none is a # and none is a macro's name expand to themselves.
+-- So does what an expansion gives.
 use Rattle.std.specs.Prelude.{codes, ◌≡◌, ℕ, ◌≤◌, Bool, not, ◌&&◌, IsTrue, List, length, Ok}
 use Rattle.std.specs.List.{list_all}
+use Rattle.c_lexer.specs.List.{all_within}
 use Rattle.c_lexer.specs.declared.token.Token.{Token}
 use Rattle.c_preproc.specs.Texts.{text_of, same_text, is_name, is_mark}
 use Rattle.c_preproc.specs.Expansion.{expansion_of, bytes_with_one, token_limit}
 
+-- the token is the name of the one macro that is there at the beginning
+abbrev pub is_filc : List ℕ → Token → Bool
+is_filc texts token = is_name token && same_text (codes "__FILC__") (text_of texts token)
+
 -- no directive begins with the token, and it isn't the one macro that is there at the beginning
 abbrev pub is_untouched : List ℕ → Token → Bool
-is_untouched texts token = not (is_mark texts token (codes "#")) && not (is_name token && same_text (codes "__FILC__") (text_of texts token))
+is_untouched texts token = not (is_mark texts token (codes "#")) && not (is_filc texts token)
 
 -- such tokens expand to themselves, if they aren't too many
 abbrev pub ExpandsToItself : List ℕ → List Token → Type 0
@@ -17,3 +23,9 @@ ExpandsToItself bytes tokens =
 -- whatever the bytes and the tokens
 abbrev pub UntouchedTokensStay : Type 0
 UntouchedTokensStay = (bytes : List ℕ) (tokens : List Token) → ExpandsToItself bytes tokens
+
+-- what tokens expand to expands to itself, where the one macro of a new beginning isn't left in it
+abbrev pub ExpansionsStay : Type 0
+ExpansionsStay =
+    (bytes : List ℕ) (tokens out : List Token) → IsTrue (all_within (length bytes) tokens) → expansion_of bytes tokens ≡ Ok out
+    → IsTrue (list_all (λ token. not (is_filc (bytes_with_one bytes) token)) out) → expansion_of (bytes_with_one bytes) out ≡ Ok out

@@ -1,7 +1,17 @@
 pub mod Texts
 pub mod Directives
+pub mod Kinds
 pub mod Macros
+pub mod Within
+pub mod Slices
 pub mod Condition
 pub mod Groups
+pub mod Nesting
 pub mod Expansion
 pub mod Law
+pub mod Reading
+pub mod Fitting
+pub mod Seen
+pub mod Table
+pub mod Walk
+pub mod Vanish

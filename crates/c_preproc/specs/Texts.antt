@@ -15,7 +15,7 @@ same_text [] (b ∷ bs) = false
 same_text (a ∷ as_) [] = false
 same_text (a ∷ as_) (b ∷ bs) = a == b && same_text as_ bs
 
--- two kinds are the same
+-- the kinds by number
 abbrev pub number_of_kind : TokenKind → ℕ
 number_of_kind Name = 0
 number_of_kind Number = 1
@@ -24,6 +24,7 @@ number_of_kind Text = 3
 number_of_kind Punct = 4
 number_of_kind End = 5
 
+-- two kinds are the same
 abbrev pub same_kind : TokenKind → TokenKind → Bool
 same_kind a b = number_of_kind a == number_of_kind b
 

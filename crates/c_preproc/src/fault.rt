@@ -1,5 +1,9 @@
 //! Why a token list has no expansion.
 
+ghost use Rattle.std.specs.Prelude.{◌≡◌};
+ghost use Rattle.c_preproc.specs.declared.fault.PreFault.TheVariants.{NoMemory};
+
+use std::alloc::{AllocError, AllocFailed};
 use thiserror::Error;
 
 /// Why a token list was not expanded. A line is that of the `#` of the directive, of a `#` elsewhere,
@@ -18,7 +22,23 @@ pub enum PreFault {
     /// More than 4,194,304 tokens.
     #[error("too many tokens at line {0}")]
     Expanded(u32),
-    /// No memory. It says nothing of the tokens.
+    /// No memory, or more bytes than a token can name. It says nothing else of the tokens.
     #[error("no memory")]
     NoMemory,
+}
+
+impl From<AllocError> for PreFault {
+    ghost from_gives = { λ _ fault. fault ≡ NoMemory };
+
+    fn from(_error: AllocError) -> PreFault {
+        PreFault::NoMemory
+    }
+}
+
+impl<T: Drop> From<AllocFailed<T>> for PreFault {
+    ghost from_gives = { λ _ fault. fault ≡ NoMemory };
+
+    fn from(_error: AllocFailed<T>) -> PreFault {
+        PreFault::NoMemory
+    }
 }

@@ -1,0 +1,73 @@
+-- Lists of tokens: what holds of all, of their parts, and of two lists side by side.
+use Rattle.std.proofs.Common.{◌≡◌, ℕ, zero, suc, ◌+◌, ◌<◌, ◌&&◌, List, [], ◌∷◌, ◌++◌, Bool, true, false, refl, ap, sym, ◌∙◌, arith, length, get_or, take, drop}
+use Rattle.std.proofs.lemmas.Bool.{and_parts}
+use Rattle.std.proofs.lemmas.List.{drop_more}
+use Rattle.std.specs.List.{list_all}
+use Rattle.c_lexer.specs.declared.token.Token.{Token}
+use Rattle.c_preproc.specs.Texts.{same_token, same_tokens}
+
+pub and_false : (b : Bool) → (b && false) ≡ false
+and_false true = refl
+and_false false = refl
+
+pub and_false_of : (a b : Bool) → b ≡ false → (a && b) ≡ false
+and_false_of a b e = rw e (and_false a)
+
+pub false_and : (a b : Bool) → a ≡ false → (a && b) ≡ false
+false_and a b e = rw e refl
+
+pub and_true : (a b : Bool) → a ≡ true → b ≡ true → (a && b) ≡ true
+and_true a b e f = rw (e, f) refl
+
+-- what holds of all, of one
+pub all_at : {X : Type 0} (p : X → Bool) (xs : List X) (i : ℕ) (d : X) → i < length xs → list_all p xs ≡ true → p (get_or xs i d) ≡ true
+all_at p [] i d h all = absurd (omega arith)
+all_at p (x ∷ xs) zero d h all = (and_parts (p x) (list_all p xs) all).0
+all_at p (x ∷ xs) (suc i) d h all = all_at p xs i d (omega arith) (and_parts (p x) (list_all p xs) all).1
+
+pub all_read : {X : Type 0} (p : X → Bool) (xs : List X) (i : ℕ) (x : X) → i < length xs → x ≡ get_or xs i x → list_all p xs ≡ true → p x ≡ true
+all_read p xs i x h is all = ap p is ∙ all_at p xs i x h all
+
+pub all_drop : {X : Type 0} (p : X → Bool) (n : ℕ) (xs : List X) → list_all p xs ≡ true → list_all p (drop n xs) ≡ true
+all_drop p zero xs all = all
+all_drop p (suc n) [] all = all
+all_drop p (suc n) (x ∷ xs) all = all_drop p n xs (and_parts (p x) (list_all p xs) all).1
+
+pub all_take : {X : Type 0} (p : X → Bool) (n : ℕ) (xs : List X) → list_all p xs ≡ true → list_all p (take n xs) ≡ true
+all_take p zero xs all = refl
+all_take p (suc n) [] all = refl
+all_take p (suc n) (x ∷ xs) all =
+    let both = and_parts (p x) (list_all p xs) all in
+    rw (both.0, all_take p n xs both.1) refl
+
+pub all_append : {X : Type 0} (p : X → Bool) (xs ys : List X) → list_all p xs ≡ true → list_all p ys ≡ true → list_all p (xs ++ ys) ≡ true
+all_append p [] ys all more = more
+all_append p (x ∷ xs) ys all more =
+    let both = and_parts (p x) (list_all p xs) all in
+    rw (both.0, all_append p xs ys both.1 more) refl
+
+pub all_push : {X : Type 0} (p : X → Bool) (xs after : List X) (x : X) → after ≡ xs ++ x ∷ [] → list_all p xs ≡ true → p x ≡ true → list_all p after ≡ true
+all_push p xs after x is all one = ap (list_all p) is ∙ all_append p xs (x ∷ []) all (rw one refl)
+
+pub all_first : {X : Type 0} (p : X → Bool) (all : List X) (x : X) (xs : List X) → all ≡ x ∷ xs → list_all p all ≡ true → p x ≡ true
+all_first p all x xs is h = (and_parts (p x) (list_all p xs) (ap (list_all p) (sym is) ∙ h)).0
+
+pub all_behind : {X : Type 0} (p : X → Bool) (all : List X) (x : X) (xs : List X) → all ≡ x ∷ xs → list_all p all ≡ true → list_all p xs ≡ true
+all_behind p all x xs is h = (and_parts (p x) (list_all p xs) (ap (list_all p) (sym is) ∙ h)).1
+
+-- the first of what is left of a list
+pub drop_read : {X : Type 0} (xs : List X) (i : ℕ) (x : X) → i < length xs → x ≡ get_or xs i x → drop i xs ≡ x ∷ drop (i + 1) xs
+drop_read xs i x h is = drop_more xs i x h ∙ ap (λ y. y ∷ drop (i + 1) xs) (sym is)
+
+-- ---- two lists of tokens
+
+pub differ : (bytes : List ℕ) (a b : List Token) → (length a ≡ length b → ⊥) → false ≡ same_tokens bytes a b
+differ bytes [] [] h = absurd (h refl)
+differ bytes [] (y ∷ b) h = refl
+differ bytes (x ∷ a) [] h = refl
+differ bytes (x ∷ a) (y ∷ b) h =
+    rw (← differ bytes a b (λ e. h (ap suc e))) (sym (and_false (same_token bytes x y)))
+
+pub same_step : (bytes : List ℕ) (a b : List Token) (i : ℕ) (x y : Token) → i < length a → i < length b → x ≡ get_or a i x → y ≡ get_or b i y → same_tokens bytes (drop i a) (drop i b) ≡ (same_token bytes x y && same_tokens bytes (drop (i + 1) a) (drop (i + 1) b))
+same_step bytes a b i x y ha hb is_x is_y =
+    rw (drop_read a i x ha is_x, drop_read b i y hb is_y) refl
