@@ -13,7 +13,8 @@ use Rattle.c_preproc.specs.declared.condition_reader.Mode.TheVariants.{Wanted}
 use Rattle.c_preproc.specs.Condition.{Item, truth_of_items}
 use Rattle.c_preproc.specs.Expansion.{item_of, items_of}
 use Rattle.c_preproc.specs.Reading.{truth, is_piece_within, item_as_read, State, state, taken, end_of}
-use Rattle.c_preproc.proofs.ConditionRuns.{run, run-truth}
+use Rattle.c_preproc.proofs.ConditionSteps.{run}
+use Rattle.c_preproc.proofs.ConditionRuns.{run-truth}
 
 abbrev pub answer_of : State → List Item → Option Bool
 answer_of s items = option_and_then (λ v. truth v.bits) (run items s)

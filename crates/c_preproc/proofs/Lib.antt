@@ -17,6 +17,7 @@ pub mod ConditionFrames
 pub mod ConditionMarks
 pub mod ConditionValues
 pub mod ConditionReads
+pub mod ConditionSteps
 pub mod ConditionRuns
 pub mod ConditionPieces
 pub mod Settled

@@ -25,9 +25,6 @@ all_at p [] i d h all = absurd (omega arith)
 all_at p (x ∷ xs) zero d h all = (and_parts (p x) (list_all p xs) all).0
 all_at p (x ∷ xs) (suc i) d h all = all_at p xs i d (omega arith) (and_parts (p x) (list_all p xs) all).1
 
-pub all_read : {X : Type 0} (p : X → Bool) (xs : List X) (i : ℕ) (x : X) → i < length xs → x ≡ get_or xs i x → list_all p xs ≡ true → p x ≡ true
-all_read p xs i x h is all = ap p is ∙ all_at p xs i x h all
-
 pub all_drop : {X : Type 0} (p : X → Bool) (n : ℕ) (xs : List X) → list_all p xs ≡ true → list_all p (drop n xs) ≡ true
 all_drop p zero xs all = all
 all_drop p (suc n) [] all = all
@@ -67,7 +64,3 @@ differ bytes [] (y ∷ b) h = refl
 differ bytes (x ∷ a) [] h = refl
 differ bytes (x ∷ a) (y ∷ b) h =
     rw (← differ bytes a b (λ e. h (ap suc e))) (sym (and_false (same_token bytes x y)))
-
-pub same_step : (bytes : List ℕ) (a b : List Token) (i : ℕ) (x y : Token) → i < length a → i < length b → x ≡ get_or a i x → y ≡ get_or b i y → same_tokens bytes (drop i a) (drop i b) ≡ (same_token bytes x y && same_tokens bytes (drop (i + 1) a) (drop (i + 1) b))
-same_step bytes a b i x y ha hb is_x is_y =
-    rw (drop_read a i x ha is_x, drop_read b i y hb is_y) refl

@@ -29,8 +29,8 @@ pub enum Piece {
 
 /// Whether a condition holds: None where its pieces are no expression, or where it has no value.
 ///
-/// Each piece is looked at once. A part that is open takes at most 64 bytes, and the depth of the
-/// parts isn't limited.
+/// Each piece is looked at once. Memory is taken for each part that is open, so the depth of the parts
+/// isn't limited.
 pub fn holds(alloc: Global, bytes: &[u8], pieces: &[Piece]) -> Result<Option<bool>, NoMemory>
     requires { IsTrue (list_all (is_piece_within (length bytes.now)) pieces.now) }
     ensures { IfOk result (λ holds. holds ≡ option_and_then truth_of_items (items_of bytes.now pieces.now)) }

@@ -94,11 +94,11 @@ fn top_floor(frames: &[Frame]) -> u8
 }
 
 /// The frame that a mark opens behind a value, where what is read up to `floor` may go on with it.
-fn open(floor: u8, whole: Whole, mark: Mark) -> Option<Frame>
+fn opened(floor: u8, whole: Whole, mark: Mark) -> Option<Frame>
     ensures { result ≡ opened floor whole mark }
 {
     if let Mark::Question = mark {
-        return open_choice(floor, whole);
+        return opened_choice(floor, whole);
     }
     let Operator { right, joint } = mark.operator()?;
     if floor < right && right <= whole.level {
@@ -108,7 +108,7 @@ fn open(floor: u8, whole: Whole, mark: Mark) -> Option<Frame>
     }
 }
 
-fn open_choice(floor: u8, whole: Whole) -> Option<Frame>
+fn opened_choice(floor: u8, whole: Whole) -> Option<Frame>
     ensures { result ≡ opened_choice floor whole }
 {
     if floor == 0 && whole.level > 0 {
@@ -170,7 +170,7 @@ fn go_on(frames: &mut Vec<Frame>, mut whole: Whole, mark: Mark) -> Result<Option
     ensures { IfOk result (λ mode. option_map (state (reverse frames.new.items)) mode ≡ went_on (reverse frames.old.items) whole mark) }
 {
     loop {
-        if let Some(frame) = open(top_floor(frames), whole, mark) {
+        if let Some(frame) = opened(top_floor(frames), whole, mark) {
             frames.push(frame)?;
             return Ok(Some(Mode::Wanted));
         }
