@@ -15,8 +15,7 @@ use crate::condition_mark::read_mark;
 use crate::condition_reader::{Frame, Item, Mode, finish, take};
 use crate::condition_value::{Value, truth};
 use c_lexer::{Token, TokenKind, read_character, read_number};
-use filc_num::NoMemory;
-use std::alloc::Global;
+use std::alloc::{AllocError, Global};
 
 /// A token of a condition.
 #[derive(Clone, Copy)]
@@ -31,7 +30,7 @@ pub enum Piece {
 ///
 /// Each piece is looked at once. Memory is taken for each part that is open, so the depth of the parts
 /// isn't limited.
-pub fn holds(alloc: Global, bytes: &[u8], pieces: &[Piece]) -> Result<Option<bool>, NoMemory>
+pub fn holds(alloc: Global, bytes: &[u8], pieces: &[Piece]) -> Result<Option<bool>, AllocError>
     requires { IsTrue (list_all (is_piece_within (length bytes.now)) pieces.now) }
     ensures { IfOk result (λ holds. holds ≡ option_and_then truth_of_items (items_of bytes.now pieces.now)) }
 {

@@ -11,7 +11,7 @@ ghost use Rattle.c_preproc.specs.Reading.{floor_of, top_floor, opened, opened_ch
 
 use crate::condition_mark::{Mark, Operator};
 use crate::condition_value::{Joint, Sign, Value, chosen, joined, signed, truth};
-use filc_num::NoMemory;
+use std::alloc::AllocError;
 
 /// A token of a condition as the reader takes it.
 #[derive(Clone, Copy)]
@@ -130,7 +130,7 @@ fn beginning(mark: Mark) -> Option<Frame>
 }
 
 /// Takes an item where an operand begins. None where none begins with it.
-fn begin(frames: &mut Vec<Frame>, item: Item) -> Result<Option<Mode>, NoMemory>
+fn begin(frames: &mut Vec<Frame>, item: Item) -> Result<Option<Mode>, AllocError>
     ensures { IfOk result (λ mode. option_map (state (reverse frames.new.items)) mode ≡ begun (reverse frames.old.items) item) }
 {
     match item {
@@ -152,7 +152,7 @@ fn close(
     frame: Frame,
     value: Value,
     mark: Mark,
-) -> Result<Option<Mode>, NoMemory>
+) -> Result<Option<Mode>, AllocError>
     ensures { IfOk result (λ mode. option_map (state (reverse frames.new.items)) mode ≡ closed (reverse frames.old.items) frame value mark) }
 {
     match (frame, mark) {
@@ -166,7 +166,7 @@ fn close(
 }
 
 /// Takes a mark behind a value. None where no expression goes on with it.
-fn go_on(frames: &mut Vec<Frame>, mut whole: Whole, mark: Mark) -> Result<Option<Mode>, NoMemory>
+fn go_on(frames: &mut Vec<Frame>, mut whole: Whole, mark: Mark) -> Result<Option<Mode>, AllocError>
     ensures { IfOk result (λ mode. option_map (state (reverse frames.new.items)) mode ≡ went_on (reverse frames.old.items) whole mark) }
 {
     loop {
@@ -185,7 +185,7 @@ fn go_on(frames: &mut Vec<Frame>, mut whole: Whole, mark: Mark) -> Result<Option
 }
 
 /// Takes the next item. None where no expression goes on with it.
-pub fn take(frames: &mut Vec<Frame>, mode: Mode, item: Item) -> Result<Option<Mode>, NoMemory>
+pub fn take(frames: &mut Vec<Frame>, mode: Mode, item: Item) -> Result<Option<Mode>, AllocError>
     ensures { IfOk result (λ mode'. option_map (state (reverse frames.new.items)) mode' ≡ taken (state (reverse frames.old.items) mode) item) }
 {
     match (mode, item) {

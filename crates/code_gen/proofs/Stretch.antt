@@ -6,7 +6,7 @@
 use Rattle.std.proofs.Common.{◌≡◌, ℕ, suc, ◌+◌, ◌%◌, ◌≤◌, List, [], ◌∷◌, Some, Bool, true, false, Result, Ok, Err, sym, ap, ◌∙◌, subst, arith}
 use Rattle.std.specs.Prelude.{slice_get}
 use Rattle.filc_num.specs.Integers.{convert_of, binary_of}
-use Rattle.filc_num.specs.declared.integer.Arith.{Arith}
+use Rattle.filc_num.specs.declared.integer.ArithFault.{ArithFault}
 use Rattle.filc_num.specs.declared.integer.IntType.{IntType}
 use Rattle.filc_num.specs.declared.integer.BinOp.{BinOp}
 use Rattle.filc_num.specs.declared.reason.Reason.{Reason}
@@ -119,7 +119,7 @@ module _ (main : Bool) (code : List Instruction) where
   writes pc regs w i d v h op m = (suc m, ap (λ p. run p w) (step pc regs i h m ∙ op m))
 
   -- arithmetic: goes on with its result in a register, or traps
-  after_runs : (V : List Value → Value → Type 0) (k t pc d line : ℕ) (regs : List Value) (w : Log) (pc2 : ℕ) (r : Result ℕ Arith) (go : Value → Play) → t ≤ d → ((m : ℕ) → exec main code (suc m) pc regs ≡ after_arithmetic r line (λ v. exec main code m (pc + 1) (put_at regs d v))) → ((v : Value) → Runs V k t (pc + 1) (put_at regs d v) w pc2 (run (go v) w)) → Runs V k t pc regs w pc2 (run (after_arithmetic r line go) w)
+  after_runs : (V : List Value → Value → Type 0) (k t pc d line : ℕ) (regs : List Value) (w : Log) (pc2 : ℕ) (r : Result ℕ ArithFault) (go : Value → Play) → t ≤ d → ((m : ℕ) → exec main code (suc m) pc regs ≡ after_arithmetic r line (λ v. exec main code m (pc + 1) (put_at regs d v))) → ((v : Value) → Runs V k t (pc + 1) (put_at regs d v) w pc2 (run (go v) w)) → Runs V k t pc regs w pc2 (run (after_arithmetic r line go) w)
   after_runs V k t pc d line regs w pc2 (Ok n) go le st each =
       runs_after V k t t pc regs w (pc + 1) (put_at regs d (integer n)) w pc2 (run (go (integer n)) w) (omega arith) (λ m. (suc m, ap (λ p. run p w) (st m))) (kept_put k t d regs (integer n) le) (each (integer n))
   after_runs V k t pc d line regs w pc2 (Err refusal) go le st each =

@@ -3,7 +3,7 @@ use Rattle.std.proofs.Common.{◌≡◌, ℕ, zero, suc, ◌+◌, ◌%◌, ◌<�
 use Rattle.std.specs.Prelude.{slice_get, nat_lt, option_and_then, ◌==◌, ◌||◌}
 use Rattle.std.proofs.lemmas.Bool.{lt-ltb}
 use Rattle.std.proofs.lemmas.Option.{slice_get-get_or}
-use Rattle.filc_num.specs.declared.integer.Arith.{Arith}
+use Rattle.filc_num.specs.declared.integer.ArithFault.{ArithFault}
 use Rattle.filc_code.specs.declared.op.Instruction.{Instruction}
 use Rattle.filc_code.specs.declared.op.Op.{Op}
 use Rattle.filc_code.specs.declared.op.Op.TheVariants.{Const, Move, Binary, Jump, JumpZero, Return, Out, Exit}
@@ -89,12 +89,12 @@ there_plays code function f main place registers i m there at =
 ahead : (place : ℕ) (p : Play) → p ≡ jumped (nat_lt place (place + 1)) p
 ahead place p = ap (λ b. jumped b p) (sym (lt-ltb place (place + 1) (omega arith)))
 
-arithmetic_goes : (d line place : ℕ) (next : ℕ → List Value → Play) (registers after : List Value) (r : Result ℕ Arith) → put_result d registers r ≡ Ok after → after_arithmetic r line (λ v. next (place + 1) (put_at registers d v)) ≡ jumped (nat_lt place (place + 1)) (next (place + 1) after)
+arithmetic_goes : (d line place : ℕ) (next : ℕ → List Value → Play) (registers after : List Value) (r : Result ℕ ArithFault) → put_result d registers r ≡ Ok after → after_arithmetic r line (λ v. next (place + 1) (put_at registers d v)) ≡ jumped (nat_lt place (place + 1)) (next (place + 1) after)
 arithmetic_goes d line place next registers after (Ok n) e =
     let same : put_at registers d (integer n) ≡ after = cc in ap (λ l. next (place + 1) l) same ∙ ahead place (next (place + 1) after)
 arithmetic_goes d line place next registers after (Err refusal) e = absurd (cc)
 
-arithmetic_refuses : (d line place : ℕ) (next : ℕ → List Value → Play) (registers : List Value) (refusal : Arith) (r : Result ℕ Arith) → put_result d registers r ≡ Err refusal → after_arithmetic r line (λ v. next (place + 1) (put_at registers d v)) ≡ trap (reason_of refusal) line
+arithmetic_refuses : (d line place : ℕ) (next : ℕ → List Value → Play) (registers : List Value) (refusal : ArithFault) (r : Result ℕ ArithFault) → put_result d registers r ≡ Err refusal → after_arithmetic r line (λ v. next (place + 1) (put_at registers d v)) ≡ trap (reason_of refusal) line
 arithmetic_refuses d line place next registers refusal (Ok n) e = absurd (cc)
 arithmetic_refuses d line place next registers refusal (Err other) e = let same : other ≡ refusal = cc in ap (λ r. trap (reason_of r) line) same
 
@@ -120,7 +120,7 @@ act_goes main (Out a) line place next registers after l st e = absurd (cc)
 act_goes main (Exit a) line place next registers after l st e = absurd (cc)
 
 -- and one that has none
-act_refuses : (main : Bool) (op : Op) (line place : ℕ) (next : ℕ → List Value → Play) (registers : List Value) (refusal : Arith) → written op registers ≡ Err refusal → act main op line next place registers ≡ trap (reason_of refusal) line
+act_refuses : (main : Bool) (op : Op) (line place : ℕ) (next : ℕ → List Value → Play) (registers : List Value) (refusal : ArithFault) → written op registers ≡ Err refusal → act main op line next place registers ≡ trap (reason_of refusal) line
 act_refuses main (Const d n) line place next registers refusal e = absurd (cc)
 act_refuses main (Move d a) line place next registers refusal e = absurd (cc)
 act_refuses main (Binary d a b op t) line place next registers refusal e = arithmetic_refuses d line place next registers refusal _ e
@@ -131,7 +131,7 @@ act_refuses main (Out a) line place next registers refusal e = absurd (cc)
 act_refuses main (Exit a) line place next registers refusal e = absurd (cc)
 
 -- what the instruction gave decides
-goes_on : (code : PlainCode) (f : PlainFunction) (thread : Thread) (m line : ℕ) (op : Op) (r : Result (List Value) Arith) → slice_get code.functions thread.function ≡ Some f → next_place op thread.place thread.registers < length f.instructions → stage_of thread.main op line thread.registers ≡ Acts op line → written op thread.registers ≡ r →
+goes_on : (code : PlainCode) (f : PlainFunction) (thread : Thread) (m line : ℕ) (op : Op) (r : Result (List Value) ArithFault) → slice_get code.functions thread.function ≡ Some f → next_place op thread.place thread.registers < length f.instructions → stage_of thread.main op line thread.registers ≡ Acts op line → written op thread.registers ≡ r →
     act thread.main op line (exec thread.main f.instructions m) thread.place thread.registers ≡ marked thread (after_written code thread op line r) (plays_on f.instructions m (after_written code thread op line r))
 goes_on code f thread m line op (Ok after) there inside st e =
     let p = next_place op thread.place thread.registers in

@@ -3,7 +3,7 @@ use Rattle.std.proofs.Common.{◌≡◌, ℕ, zero, suc, ◌+◌, ◌<◌, ◌�
 use Rattle.std.specs.Prelude.{slice_get, option_and_then, ◌==◌}
 use Rattle.std.proofs.lemmas.List.Elements.{All-get_or}
 use Rattle.std.proofs.lemmas.Option.{slice_get_within, get_or_from_slice_get}
-use Rattle.filc_num.specs.declared.integer.Arith.{Arith}
+use Rattle.filc_num.specs.declared.integer.ArithFault.{ArithFault}
 use Rattle.filc_num.specs.declared.reason.Reason.{Reason}
 use Rattle.filc_code.specs.declared.op.Instruction.{Instruction}
 use Rattle.filc_code.specs.declared.op.Op.{Op}
@@ -42,7 +42,7 @@ keeps_more values more (Return a) le h = omega (arith, h)
 keeps_more values more (Out a) le h = omega (arith, h)
 keeps_more values more (Exit a) le h = omega (arith, h)
 
-put_result_long : (d : ℕ) (registers after : List Value) (r : Result ℕ Arith) → d < length registers → put_result d registers r ≡ Ok after → length after ≡ length registers
+put_result_long : (d : ℕ) (registers after : List Value) (r : Result ℕ ArithFault) → d < length registers → put_result d registers r ≡ Ok after → length after ≡ length registers
 put_result_long d registers after (Ok n) h e =
     let same : put_at registers d (integer n) ≡ after = cc in sym (ap length same) ∙ length-put_at registers d (integer n) h
 put_result_long d registers after (Err refusal) h e = absurd (cc)
@@ -169,7 +169,7 @@ trapped code thread reason at line h = record { running = h.running; there = h.t
 halts : (code : PlainCode) (thread : Thread) (halt : Halt) → IsThreadOf code thread → IsThreadOf code (halted thread halt)
 halts code thread halt h = record { running = h.running; there = h.there; formed = h.formed; inside = h.inside; registers = h.registers; stands = tt }
 
-after_keeps : (code : PlainCode) (thread : Thread) (op : Op) (line : ℕ) (r : Result (List Value) Arith) → (h : IsThreadOf code thread) → next_place op thread.place thread.registers < length h.running.instructions → ((after : List Value) → r ≡ Ok after → length after ≡ 256) → IsThreadOf code (after_written code thread op line r)
+after_keeps : (code : PlainCode) (thread : Thread) (op : Op) (line : ℕ) (r : Result (List Value) ArithFault) → (h : IsThreadOf code thread) → next_place op thread.place thread.registers < length h.running.instructions → ((after : List Value) → r ≡ Ok after → length after ≡ 256) → IsThreadOf code (after_written code thread op line r)
 after_keeps code thread op line (Ok after) h inside long =
     arrives code thread.function h.running thread.main (next_place op thread.place thread.registers) after h.there h.formed inside (long after refl)
 after_keeps code thread op line (Err refusal) h inside long = trapped code thread (reason_of refusal) line line h

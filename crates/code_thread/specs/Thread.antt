@@ -5,7 +5,7 @@
 -- that play, by one instruction, or by the answer to one event.
 use Rattle.std.specs.Prelude.{◌≡◌, ℕ, zero, suc, ◌+◌, ◌%◌, ◌<◌, List, length, Option, Some, None, Bool, true, false, Result, Ok, Err, nat_lt, slice_get, ◌==◌, ◌||◌}
 use Rattle.filc_num.specs.Integers.{convert_of, binary_of}
-use Rattle.filc_num.specs.declared.integer.Arith.{Arith}
+use Rattle.filc_num.specs.declared.integer.ArithFault.{ArithFault}
 use Rattle.filc_code.specs.declared.op.Instruction.{Instruction}
 use Rattle.filc_code.specs.declared.op.Op.{Op}
 use Rattle.filc_code.specs.declared.op.Op.TheVariants.{Const, Move, Binary, Jump, JumpZero, Return, Out, Exit}
@@ -77,12 +77,12 @@ thread_at code function main place registers = record {
 -- ---- one instruction on registers
 
 -- the registers with what arithmetic gave
-abbrev pub put_result : ℕ → List Value → Result ℕ Arith → Result (List Value) Arith
+abbrev pub put_result : ℕ → List Value → Result ℕ ArithFault → Result (List Value) ArithFault
 put_result d registers (Ok n) = Ok (put_at registers d (integer n))
 put_result d registers (Err refusal) = Err refusal
 
 -- the registers after an operation, or why it refuses
-abbrev pub written : Op → List Value → Result (List Value) Arith
+abbrev pub written : Op → List Value → Result (List Value) ArithFault
 written (Const d constant) registers = Ok (put_at registers d (integer constant))
 written (Move d a) registers = Ok (put_at registers d (value_at registers a))
 written (Binary d a b op t) registers =
@@ -106,7 +106,7 @@ next_place op place registers = place + 1
 abbrev pub at_trap : Thread → Event → ℕ → Thread
 at_trap thread event line = record thread { stage = Asks event line }
 
-abbrev pub after_written : PlainCode → Thread → Op → ℕ → Result (List Value) Arith → Thread
+abbrev pub after_written : PlainCode → Thread → Op → ℕ → Result (List Value) ArithFault → Thread
 after_written code thread op line (Ok registers) =
     thread_at code thread.function thread.main (next_place op thread.place thread.registers) registers
 after_written code thread op line (Err refusal) = at_trap thread (TrapEvent (reason_of refusal) line) line

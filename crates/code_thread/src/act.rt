@@ -10,7 +10,7 @@ ghost use Rattle.code_thread.specs.Thread.{written, next_place, stage_of};
 
 use crate::stage::Stage;
 use filc_code::{Op, operator_at, type_at};
-use filc_num::{Arith, BinOp, binary, convert};
+use filc_num::{ArithFault, BinOp, binary, convert};
 use ideal_machine::{Event, Half, Value};
 
 /// An integer as a value.
@@ -42,7 +42,7 @@ pub fn put(registers: &mut Vec<Value>, register: u32, value: Value)
 }
 
 /// An operator on two integers, which are converted to its type before, but for a shift's count.
-fn arithmetic(op: u32, ty: u32, a: u64, b: u64) -> Result<u64, Arith>
+fn arithmetic(op: u32, ty: u32, a: u64, b: u64) -> Result<u64, ArithFault>
     requires op { IsOperatorNumber op }
     requires ty { IsArithmeticNumber ty }
     ensures { result ≡ binary_of (operator_at op) (type_at ty) (convert_of a (type_at ty)) (right_operand (operator_at op) (type_at ty) b) }
@@ -58,7 +58,7 @@ fn arithmetic(op: u32, ty: u32, a: u64, b: u64) -> Result<u64, Arith>
 
 /// Carries out an instruction on registers and gives the place after it. Where arithmetic has no
 /// result nothing changes.
-pub fn act(registers: &mut Vec<Value>, op: Op, place: usize) -> Result<usize, Arith>
+pub fn act(registers: &mut Vec<Value>, op: Op, place: usize) -> Result<usize, ArithFault>
     requires registers { KeepsRegisters (length registers.old.items) op }
     requires numbers { KeepsNumbers op }
     requires place { place + 1 < 2 ^ 64 }

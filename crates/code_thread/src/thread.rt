@@ -11,7 +11,7 @@ ghost use Rattle.code_thread.specs.declared.stage.Want.TheVariants.{Instruction 
 use crate::act;
 use crate::stage::{Halt, Stage, Want};
 use filc_code::{Code, CodeFunction};
-use filc_num::{Arith, Reason};
+use filc_num::{ArithFault, Reason};
 use ideal_machine::{Answer, Event, Half, Value};
 use std::alloc::{AllocError as NoMemory, Global};
 use std::marker::Model;
@@ -49,12 +49,12 @@ impl Model for CodeThread {
 }
 
 /// Why arithmetic without a result stops a thread.
-fn reason_of(refusal: Arith) -> Reason
+fn reason_of(refusal: ArithFault) -> Reason
     ensures { result ≡ reason_of refusal }
 {
     match refusal {
-        Arith::Divide => Reason::Divide,
-        Arith::Shift => Reason::Shift,
+        ArithFault::Divide => Reason::Divide,
+        ArithFault::Shift => Reason::Shift,
     }
 }
 

@@ -6,10 +6,10 @@ use Rattle.std.proofs.lemmas.Bool.Decides.{nat_tests}
 use Rattle.std.specs.Int.{cast_signed}
 use Rattle.filc_num.specs.declared.integer.IntType.{IntType}
 use Rattle.filc_num.specs.declared.integer.IntType.TheVariants.{Bool as BoolType, I8, U8, I16, U16, I32, U32, I64, U64}
-use Rattle.filc_num.specs.Integers.{width_of, count_of, half_of, bytes_of, is_signed, least_of, greatest_of, value_of, extended, bits_of, wrapped, convert_of, IsValue}
+use Rattle.filc_num.specs.Integers.{width_of, count_of, half_of, bytes_of, is_signed, least_of, greatest_of, value_of, extend, bits_of, wrap, convert_of, IsValue}
 use Rattle.filc_num.proofs.Residues.{bits_of-lt, bits_of-value_of}
 
-pub IsValue-convert_of : (t : IntType) (v : ℕ) → IsValue t (convert_of v t)
+pub IsValue-convert_of : (ty : IntType) (v : ℕ) → IsValue ty (convert_of v ty)
 unfolding convert_of
 IsValue-convert_of BoolType v = record { fits = grind (arith, nat_tests); from_least = grind (arith, ints, nat_tests); to_greatest = grind (arith, ints, nat_tests) }
 IsValue-convert_of I8 v = record { fits = grind (arith, nat_tests); from_least = grind (arith, ints, nat_tests); to_greatest = grind (arith, ints, nat_tests) }
@@ -21,7 +21,7 @@ IsValue-convert_of U32 v = record { fits = grind (arith, nat_tests); from_least 
 IsValue-convert_of I64 v = record { fits = grind (arith, nat_tests); from_least = grind (arith, ints, nat_tests); to_greatest = grind (arith, ints, nat_tests) }
 IsValue-convert_of U64 v = record { fits = grind (arith, nat_tests); from_least = grind (arith, ints, nat_tests); to_greatest = grind (arith, ints, nat_tests) }
 
-pub convert_of-value : (t : IntType) (v : ℕ) → IsValue t v → convert_of v t ≡ v
+pub convert_of-value : (ty : IntType) (v : ℕ) → IsValue ty v → convert_of v ty ≡ v
 unfolding convert_of
 convert_of-value BoolType v h = grind (arith, ints, nat_tests)
 convert_of-value I8 v h = grind (arith, ints, nat_tests)
@@ -34,7 +34,7 @@ convert_of-value I64 v h = grind (arith, ints, nat_tests)
 convert_of-value U64 v h = grind (arith, ints, nat_tests)
 
 -- a value of a type that is not `_Bool` is congruent to what was converted
-pub convert_of-congruent : (t : IntType) (v : ℕ) → t ≢ BoolType → convert_of v t % count_of t ≡ v % count_of t
+pub convert_of-congruent : (ty : IntType) (v : ℕ) → ty ≢ BoolType → convert_of v ty % count_of ty ≡ v % count_of ty
 unfolding convert_of
 convert_of-congruent BoolType v h = absurd (h refl)
 convert_of-congruent I8 v h = grind (arith, nat_tests)
@@ -47,20 +47,20 @@ convert_of-congruent I64 v h = grind (arith, nat_tests)
 convert_of-congruent U64 v h = grind (arith, nat_tests)
 
 -- a conversion looks at the low bits alone
-pub convert_of-low : (t : IntType) (u v : ℕ) → t ≢ BoolType → u % count_of t ≡ v % count_of t → convert_of u t ≡ convert_of v t
+pub convert_of-low : (ty : IntType) (u v : ℕ) → ty ≢ BoolType → u % count_of ty ≡ v % count_of ty → convert_of u ty ≡ convert_of v ty
 unfolding convert_of
 convert_of-low BoolType u v h e = absurd (h refl)
-convert_of-low I8 u v h e = ap (extended I8) e
-convert_of-low U8 u v h e = ap (extended U8) e
-convert_of-low I16 u v h e = ap (extended I16) e
-convert_of-low U16 u v h e = ap (extended U16) e
-convert_of-low I32 u v h e = ap (extended I32) e
-convert_of-low U32 u v h e = ap (extended U32) e
-convert_of-low I64 u v h e = ap (extended I64) e
-convert_of-low U64 u v h e = ap (extended U64) e
+convert_of-low I8 u v h e = ap (extend I8) e
+convert_of-low U8 u v h e = ap (extend U8) e
+convert_of-low I16 u v h e = ap (extend I16) e
+convert_of-low U16 u v h e = ap (extend U16) e
+convert_of-low I32 u v h e = ap (extend I32) e
+convert_of-low U32 u v h e = ap (extend U32) e
+convert_of-low I64 u v h e = ap (extend I64) e
+convert_of-low U64 u v h e = ap (extend U64) e
 
 -- two values of a type that are congruent are equal
-pub same_value : (t : IntType) (u v : ℕ) → IsValue t u → IsValue t v → u % count_of t ≡ v % count_of t → u ≡ v
+pub same_value : (ty : IntType) (u v : ℕ) → IsValue ty u → IsValue ty v → u % count_of ty ≡ v % count_of ty → u ≡ v
 same_value BoolType u v p q e = grind (arith, ints)
 same_value I8 u v p q e = grind (arith, ints)
 same_value U8 u v p q e = grind (arith, ints)
@@ -82,12 +82,12 @@ low_of_low m n i j h e =
     sym (mod-mod_pow m (j - i) i) ∙ ap (λ (k : ℕ). k % 2 ^ i) (subst (λ (k : ℕ). m % 2 ^ k ≡ n % 2 ^ k) split e) ∙ mod-mod_pow n (j - i) i
 
 -- a conversion by way of a type that is no narrower
-pub convert_of-twice : (s t : IntType) (v : ℕ) → s ≢ BoolType → t ≢ BoolType → width_of t ≤ width_of s → convert_of (convert_of v s) t ≡ convert_of v t
-convert_of-twice s t v p q h =
-    convert_of-low t (convert_of v s) v q (low_of_low (convert_of v s) v (width_of t) (width_of s) h (convert_of-congruent s v p))
+pub convert_of-twice : (s ty : IntType) (v : ℕ) → s ≢ BoolType → ty ≢ BoolType → width_of ty ≤ width_of s → convert_of (convert_of v s) ty ≡ convert_of v ty
+convert_of-twice s ty v p q h =
+    convert_of-low ty (convert_of v s) v q (low_of_low (convert_of v s) v (width_of ty) (width_of s) h (convert_of-congruent s v p))
 
 -- the positive half of a type's values fits 63 bits
-pub half_of-le : (t : IntType) → half_of t ≤ 2 ^ 63
+pub half_of-le : (ty : IntType) → half_of ty ≤ 2 ^ 63
 half_of-le BoolType = omega arith
 half_of-le I8 = omega arith
 half_of-le U8 = omega arith
@@ -98,7 +98,7 @@ half_of-le U32 = omega arith
 half_of-le I64 = omega arith
 half_of-le U64 = omega arith
 
-count_of-le : (t : IntType) → count_of t ≤ 2 ^ 64
+count_of-le : (ty : IntType) → count_of ty ≤ 2 ^ 64
 count_of-le BoolType = omega arith
 count_of-le I8 = omega arith
 count_of-le U8 = omega arith
@@ -117,20 +117,20 @@ same_reading false true h k m n v p q low high top = omega (arith, ints)
 same_reading true false h k m n v p q low high top = absurd (omega (arith, ints))
 
 -- v stands for the same integer in a type that has all integers of its own
-pub value_of_wider : (s t : IntType) (v : ℕ) → IsValue s v → least_of t ≤ℤ least_of s → greatest_of s ≤ℤ greatest_of t → value_of t v ≡ value_of s v
-value_of_wider s t v h low high =
-    same_reading (is_signed s) (is_signed t) (half_of s) (half_of t) (count_of s) (count_of t) v (pow_pos (width_of t - 1)) (half_of-le t) low high h.to_greatest
+pub value_of_wider : (s ty : IntType) (v : ℕ) → IsValue s v → least_of ty ≤ℤ least_of s → greatest_of s ≤ℤ greatest_of ty → value_of ty v ≡ value_of s v
+value_of_wider s ty v h low high =
+    same_reading (is_signed s) (is_signed ty) (half_of s) (half_of ty) (count_of s) (count_of ty) v (pow_pos (width_of ty - 1)) (half_of-le ty) low high h.to_greatest
 
 int_le_trans : {a b c : ℤ} → a ≤ℤ b → b ≤ℤ c → a ≤ℤ c
 int_le_trans p q = omega (arith, ints)
 
-pub IsValue-wider : (s t : IntType) (v : ℕ) → IsValue s v → least_of t ≤ℤ least_of s → greatest_of s ≤ℤ greatest_of t → IsValue t v
-IsValue-wider s t v h low high =
-    let e = value_of_wider s t v h low high in
+pub IsValue-wider : (s ty : IntType) (v : ℕ) → IsValue s v → least_of ty ≤ℤ least_of s → greatest_of s ≤ℤ greatest_of ty → IsValue ty v
+IsValue-wider s ty v h low high =
+    let e = value_of_wider s ty v h low high in
     record { fits = h.fits; from_least = rw e (int_le_trans low h.from_least); to_greatest = rw e (int_le_trans h.to_greatest high) }
 
 -- the low bytes of a value are enough to read it back
-pub convert_of-stored : (t : IntType) (v : ℕ) → IsValue t v → convert_of (v % 2 ^ (8 * bytes_of t)) t ≡ v
+pub convert_of-stored : (ty : IntType) (v : ℕ) → IsValue ty v → convert_of (v % 2 ^ (8 * bytes_of ty)) ty ≡ v
 unfolding convert_of
 convert_of-stored BoolType v h = grind (arith, ints, nat_tests)
 convert_of-stored I8 v h = grind (arith, ints, nat_tests)
@@ -156,33 +156,33 @@ reading true z k m p q r low high = signed_reading z k p q low high
 reading false z k m p q r low high = unsigned_reading z m r low high
 
 -- the bits of an integer of a type's range are the value that stands for it
-pub value_of-bits_of : (t : IntType) (z : ℤ) → least_of t ≤ℤ z → z ≤ℤ greatest_of t → value_of t (bits_of z) ≡ z
-value_of-bits_of t z low high =
-    reading (is_signed t) z (half_of t) (count_of t) (pow_pos (width_of t - 1)) (half_of-le t) (count_of-le t) low high
+pub value_of-bits_of : (ty : IntType) (z : ℤ) → least_of ty ≤ℤ z → z ≤ℤ greatest_of ty → value_of ty (bits_of z) ≡ z
+value_of-bits_of ty z low high =
+    reading (is_signed ty) z (half_of ty) (count_of ty) (pow_pos (width_of ty - 1)) (half_of-le ty) (count_of-le ty) low high
 
-pub IsValue-bits_of : (t : IntType) (z : ℤ) → least_of t ≤ℤ z → z ≤ℤ greatest_of t → IsValue t (bits_of z)
-IsValue-bits_of t z low high =
-    let e = value_of-bits_of t z low high in
+pub IsValue-bits_of : (ty : IntType) (z : ℤ) → least_of ty ≤ℤ z → z ≤ℤ greatest_of ty → IsValue ty (bits_of z)
+IsValue-bits_of ty z low high =
+    let e = value_of-bits_of ty z low high in
     record { fits = bits_of-lt z; from_least = rw e low; to_greatest = rw e high }
 
 -- an integer of the type's range is wrapped to the value that stands for it
-pub value_of-wrapped : (t : IntType) (z : ℤ) → least_of t ≤ℤ z → z ≤ℤ greatest_of t → value_of t (wrapped t z) ≡ z
-value_of-wrapped t z low high =
-    ap (value_of t) (convert_of-value t (bits_of z) (IsValue-bits_of t z low high)) ∙ value_of-bits_of t z low high
+pub value_of-wrap : (ty : IntType) (z : ℤ) → least_of ty ≤ℤ z → z ≤ℤ greatest_of ty → value_of ty (wrap ty z) ≡ z
+value_of-wrap ty z low high =
+    ap (value_of ty) (convert_of-value ty (bits_of z) (IsValue-bits_of ty z low high)) ∙ value_of-bits_of ty z low high
 
 -- two values that stand for one integer are equal
-pub value_of-injective : (t : IntType) (u v : ℕ) → IsValue t u → IsValue t v → value_of t u ≡ value_of t v → u ≡ v
-value_of-injective t u v p q e =
-    sym (bits_of-value_of t u p.fits) ∙ ap bits_of e ∙ bits_of-value_of t v q.fits
+pub value_of-injective : (ty : IntType) (u v : ℕ) → IsValue ty u → IsValue ty v → value_of ty u ≡ value_of ty v → u ≡ v
+value_of-injective ty u v p q e =
+    sym (bits_of-value_of ty u p.fits) ∙ ap bits_of e ∙ bits_of-value_of ty v q.fits
 
 -- each type has 0, and each but `_Bool` has more than 1
-holds_zero : (t : IntType) → least_of t ≤ℤ pos 0
-holds_zero t = by_sign (is_signed t) where
-  by_sign : (b : Bool) → cond b (negsuc (half_of t - 1)) (pos 0) ≤ℤ pos 0
+holds_zero : (ty : IntType) → least_of ty ≤ℤ pos 0
+holds_zero ty = by_sign (is_signed ty) where
+  by_sign : (b : Bool) → cond b (negsuc (half_of ty - 1)) (pos 0) ≤ℤ pos 0
   by_sign true = omega (arith, ints)
   by_sign false = omega (arith, ints)
 
-holds_one : (t : IntType) → t ≢ BoolType → pos 1 ≤ℤ greatest_of t
+holds_one : (ty : IntType) → ty ≢ BoolType → pos 1 ≤ℤ greatest_of ty
 holds_one BoolType n = absurd (n refl)
 holds_one I8 n = omega (arith, ints)
 holds_one U8 n = omega (arith, ints)
@@ -194,15 +194,15 @@ holds_one I64 n = omega (arith, ints)
 holds_one U64 n = omega (arith, ints)
 
 -- widened and back
-pub convert_of-back : (s t : IntType) (v : ℕ) → IsValue s v → t ≢ BoolType → width_of s ≤ width_of t → convert_of (convert_of v t) s ≡ v
-convert_of-back BoolType t v h n w =
-    let e = convert_of-value t v (IsValue-wider BoolType t v h (holds_zero t) (holds_one t n)) in
+pub convert_of-back : (s ty : IntType) (v : ℕ) → IsValue s v → ty ≢ BoolType → width_of s ≤ width_of ty → convert_of (convert_of v ty) s ≡ v
+convert_of-back BoolType ty v h n w =
+    let e = convert_of-value ty v (IsValue-wider BoolType ty v h (holds_zero ty) (holds_one ty n)) in
     ap (λ (u : ℕ). convert_of u BoolType) e ∙ convert_of-value BoolType v h
-convert_of-back I8 t v h n w = convert_of-twice t I8 v n (λ (e : I8 ≡ BoolType). cc) w ∙ convert_of-value I8 v h
-convert_of-back U8 t v h n w = convert_of-twice t U8 v n (λ (e : U8 ≡ BoolType). cc) w ∙ convert_of-value U8 v h
-convert_of-back I16 t v h n w = convert_of-twice t I16 v n (λ (e : I16 ≡ BoolType). cc) w ∙ convert_of-value I16 v h
-convert_of-back U16 t v h n w = convert_of-twice t U16 v n (λ (e : U16 ≡ BoolType). cc) w ∙ convert_of-value U16 v h
-convert_of-back I32 t v h n w = convert_of-twice t I32 v n (λ (e : I32 ≡ BoolType). cc) w ∙ convert_of-value I32 v h
-convert_of-back U32 t v h n w = convert_of-twice t U32 v n (λ (e : U32 ≡ BoolType). cc) w ∙ convert_of-value U32 v h
-convert_of-back I64 t v h n w = convert_of-twice t I64 v n (λ (e : I64 ≡ BoolType). cc) w ∙ convert_of-value I64 v h
-convert_of-back U64 t v h n w = convert_of-twice t U64 v n (λ (e : U64 ≡ BoolType). cc) w ∙ convert_of-value U64 v h
+convert_of-back I8 ty v h n w = convert_of-twice ty I8 v n (λ (e : I8 ≡ BoolType). cc) w ∙ convert_of-value I8 v h
+convert_of-back U8 ty v h n w = convert_of-twice ty U8 v n (λ (e : U8 ≡ BoolType). cc) w ∙ convert_of-value U8 v h
+convert_of-back I16 ty v h n w = convert_of-twice ty I16 v n (λ (e : I16 ≡ BoolType). cc) w ∙ convert_of-value I16 v h
+convert_of-back U16 ty v h n w = convert_of-twice ty U16 v n (λ (e : U16 ≡ BoolType). cc) w ∙ convert_of-value U16 v h
+convert_of-back I32 ty v h n w = convert_of-twice ty I32 v n (λ (e : I32 ≡ BoolType). cc) w ∙ convert_of-value I32 v h
+convert_of-back U32 ty v h n w = convert_of-twice ty U32 v n (λ (e : U32 ≡ BoolType). cc) w ∙ convert_of-value U32 v h
+convert_of-back I64 ty v h n w = convert_of-twice ty I64 v n (λ (e : I64 ≡ BoolType). cc) w ∙ convert_of-value I64 v h
+convert_of-back U64 ty v h n w = convert_of-twice ty U64 v n (λ (e : U64 ≡ BoolType). cc) w ∙ convert_of-value U64 v h

@@ -15,8 +15,8 @@ bits_of-lt (negsuc n) = omega arith
 pub bits_of_kept : (v : ℕ) → v < 2 ^ 64 → bits_of (cast_signed w64 v) ≡ v
 bits_of_kept v h = grind (arith, ints)
 
-pub bits_of-value_of : (t : IntType) (v : ℕ) → v < 2 ^ 64 → bits_of (value_of t v) ≡ v
-bits_of-value_of t v h = by_sign (is_signed t) where
+pub bits_of-value_of : (ty : IntType) (v : ℕ) → v < 2 ^ 64 → bits_of (value_of ty v) ≡ v
+bits_of-value_of ty v h = by_sign (is_signed ty) where
   by_sign : (b : Bool) → bits_of (cond b (cast_signed w64 v) (pos v)) ≡ v
   by_sign true = bits_of_kept v h
   by_sign false = omega arith
@@ -43,26 +43,26 @@ bits_of-mul x y =
     ∙ ap (λ (z : ℤ). int_wrap w64 (cast_signed w64 (bits_of x) *ℤ z)) (wrap_is y)
     ∙ sym (wrapping_mul-bits w64 (bits_of x) (bits_of y) (bits_of-lt x) (bits_of-lt y)))
 
-pub sum_of_values : (t : IntType) (a b : ℕ) → a < 2 ^ 64 → b < 2 ^ 64 → bits_of (value_of t a +ℤ value_of t b) ≡ (a + b) % 2 ^ 64
-sum_of_values t a b p q = by_sign (is_signed t) where
+pub sum_of_values : (ty : IntType) (a b : ℕ) → a < 2 ^ 64 → b < 2 ^ 64 → bits_of (value_of ty a +ℤ value_of ty b) ≡ (a + b) % 2 ^ 64
+sum_of_values ty a b p q = by_sign (is_signed ty) where
   by_sign : (s : Bool) → bits_of (cond s (cast_signed w64 a) (pos a) +ℤ cond s (cast_signed w64 b) (pos b)) ≡ (a + b) % 2 ^ 64
   by_sign true = grind (arith, ints)
   by_sign false = refl
 
-pub difference_of_values : (t : IntType) (a b : ℕ) → a < 2 ^ 64 → b < 2 ^ 64 → bits_of (value_of t a -ℤ value_of t b) ≡ (a + (2 ^ 64 - b)) % 2 ^ 64
-difference_of_values t a b p q = by_sign (is_signed t) where
+pub difference_of_values : (ty : IntType) (a b : ℕ) → a < 2 ^ 64 → b < 2 ^ 64 → bits_of (value_of ty a -ℤ value_of ty b) ≡ (a + (2 ^ 64 - b)) % 2 ^ 64
+difference_of_values ty a b p q = by_sign (is_signed ty) where
   by_sign : (s : Bool) → bits_of (cond s (cast_signed w64 a) (pos a) -ℤ cond s (cast_signed w64 b) (pos b)) ≡ (a + (2 ^ 64 - b)) % 2 ^ 64
   by_sign true = grind (arith, ints)
   by_sign false = grind (arith, ints)
 
-pub product_of_values : (t : IntType) (a b : ℕ) → a < 2 ^ 64 → b < 2 ^ 64 → bits_of (value_of t a *ℤ value_of t b) ≡ (a * b) % 2 ^ 64
-product_of_values t a b p q =
-    bits_of-mul (value_of t a) (value_of t b)
-    ∙ ap (λ (n : ℕ). (n * bits_of (value_of t b)) % 2 ^ 64) (bits_of-value_of t a p)
-    ∙ ap (λ (n : ℕ). (a * n) % 2 ^ 64) (bits_of-value_of t b q)
+pub product_of_values : (ty : IntType) (a b : ℕ) → a < 2 ^ 64 → b < 2 ^ 64 → bits_of (value_of ty a *ℤ value_of ty b) ≡ (a * b) % 2 ^ 64
+product_of_values ty a b p q =
+    bits_of-mul (value_of ty a) (value_of ty b)
+    ∙ ap (λ (n : ℕ). (n * bits_of (value_of ty b)) % 2 ^ 64) (bits_of-value_of ty a p)
+    ∙ ap (λ (n : ℕ). (a * n) % 2 ^ 64) (bits_of-value_of ty b q)
 
-pub product_with_power : (t : IntType) (a k : ℕ) → a < 2 ^ 64 → k < 64 → bits_of (value_of t a *ℤ pos (2 ^ k)) ≡ (a * 2 ^ k) % 2 ^ 64
-product_with_power t a k p q =
-    bits_of-mul (value_of t a) (pos (2 ^ k))
-    ∙ ap (λ (n : ℕ). (n * (2 ^ k % 2 ^ 64)) % 2 ^ 64) (bits_of-value_of t a p)
+pub product_with_power : (ty : IntType) (a k : ℕ) → a < 2 ^ 64 → k < 64 → bits_of (value_of ty a *ℤ pos (2 ^ k)) ≡ (a * 2 ^ k) % 2 ^ 64
+product_with_power ty a k p q =
+    bits_of-mul (value_of ty a) (pos (2 ^ k))
+    ∙ ap (λ (n : ℕ). (n * (2 ^ k % 2 ^ 64)) % 2 ^ 64) (bits_of-value_of ty a p)
     ∙ mul-mod_second a (2 ^ k) (2 ^ 64)

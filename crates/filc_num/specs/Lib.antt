@@ -1,4 +1,7 @@
 pub mod Integers
+pub mod CIntTypes
 pub mod Reasons
+pub mod Refusals
+pub mod Gives
 pub mod Statics
 pub mod StaticDefs

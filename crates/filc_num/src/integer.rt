@@ -1,7 +1,7 @@
 //! The integer types of C and the operators on two integers.
 
-ghost use Rattle.std.specs.Prelude.{◌≡◌};
-ghost use Rattle.filc_num.specs.Integers.{width_of, bytes_of, is_signed};
+ghost use Rattle.std.specs.Prelude.{◌≡◌, nat_lt};
+ghost use Rattle.filc_num.specs.Integers.{width_of, bytes_of, is_signed, limit_of};
 
 /// An integer type of C with its width: `_Bool`, and the two's complement types of 8 to 64 bits.
 ///
@@ -49,6 +49,23 @@ impl IntType {
             IntType::I8 | IntType::I16 | IntType::I32 | IntType::I64
         )
     }
+
+    /// Whether a natural number is an integer of the type.
+    pub fn holds(self, number: u64) -> bool
+        ensures { result ≡ nat_lt number (limit_of self) }
+    {
+        match self {
+            IntType::Bool => number < 1 << 1,
+            IntType::I8 => number < 1 << 7,
+            IntType::U8 => number < 1 << 8,
+            IntType::I16 => number < 1 << 15,
+            IntType::U16 => number < 1 << 16,
+            IntType::I32 => number < 1 << 31,
+            IntType::U32 => number < 1 << 32,
+            IntType::I64 => number < 1 << 63,
+            IntType::U64 => true,
+        }
+    }
 }
 
 /// An operator on two integers, in the order in which listings number them.
@@ -74,7 +91,7 @@ pub enum BinOp {
 
 /// Why an operator has no result.
 #[derive(Clone, Copy, Debug, PartialEq, Eq)]
-pub enum Arith {
+pub enum ArithFault {
     /// A zero divisor, or the least value divided by -1.
     Divide,
     /// A shift count that is not below the width.

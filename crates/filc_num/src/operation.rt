@@ -6,10 +6,10 @@
 
 ghost use Rattle.std.specs.Prelude.{◌≡◌, ◌≢◌, ◌^◌, ◌-◌, ◌<◌, ◌*ℤ◌, ◌+ℤ◌, ◌-ℤ◌, pos, IfOk, IsTrue, int_lt, nat_lt, int_div, int_rem};
 ghost use Rattle.std.specs.Int.{w64, cast_signed, int_shr};
-ghost use Rattle.filc_num.specs.Integers.{width_of, is_promoted, value_of, IsValue, IsRightOperand, bits_of, wrapped, can_divide, result_type_of, binary_of};
+ghost use Rattle.filc_num.specs.Integers.{width_of, is_promoted, value_of, IsValue, IsRightOperand, bits_of, wrap, can_divide, result_type_of, binary_of};
 
 use crate::conversion::convert;
-use crate::integer::{Arith, BinOp, IntType};
+use crate::integer::{ArithFault, BinOp, IntType};
 
 /// Computes an operator on two values of a promoted type, `int` or wider. Arithmetic wraps. `/` and `%`
 /// round toward zero and `>>` copies the sign. The count of a shift may be of any type.
@@ -17,82 +17,82 @@ use crate::integer::{Arith, BinOp, IntType};
 /// Fails with `Divide` where the divisor is 0 or the least value is divided by -1, and with `Shift`
 /// where the count is not below the width.
 #[tactic(auto, unfolding(crate::specs::Integers::binary_of))]
-pub fn binary(op: BinOp, t: IntType, a: u64, b: u64) -> Result<u64, Arith>
-    requires promoted { IsTrue (is_promoted t) }
-    requires left { IsValue t a }
-    requires right { IsRightOperand op t b }
-    ensures exact { result ≡ binary_of op t a b }
-    ensures value { IfOk result (IsValue (result_type_of op t)) }
+pub fn binary(op: BinOp, ty: IntType, a: u64, b: u64) -> Result<u64, ArithFault>
+    requires promoted { IsTrue (is_promoted ty) }
+    requires left { IsValue ty a }
+    requires right { IsRightOperand op ty b }
+    ensures exact { result ≡ binary_of op ty a b }
+    ensures value { IfOk result (IsValue (result_type_of op ty)) }
 {
     match op {
-        BinOp::Add => Ok(sum(t, a, b)),
-        BinOp::Sub => Ok(difference(t, a, b)),
-        BinOp::Mul => Ok(product(t, a, b)),
-        BinOp::Div => quotient(t, a, b),
-        BinOp::Rem => remainder(t, a, b),
-        BinOp::And => Ok(convert(a & b, t)),
-        BinOp::Or => Ok(convert(a | b, t)),
-        BinOp::Xor => Ok(convert(a ^ b, t)),
-        BinOp::Shl => shifted_left(t, a, b),
-        BinOp::Shr => shifted_right(t, a, b),
-        BinOp::Lt => Ok(u64::from(is_less(t, a, b))),
-        BinOp::Le => Ok(u64::from(!is_less(t, b, a))),
-        BinOp::Gt => Ok(u64::from(is_less(t, b, a))),
-        BinOp::Ge => Ok(u64::from(!is_less(t, a, b))),
+        BinOp::Add => Ok(sum(ty, a, b)),
+        BinOp::Sub => Ok(difference(ty, a, b)),
+        BinOp::Mul => Ok(product(ty, a, b)),
+        BinOp::Div => quotient(ty, a, b),
+        BinOp::Rem => remainder(ty, a, b),
+        BinOp::And => Ok(convert(a & b, ty)),
+        BinOp::Or => Ok(convert(a | b, ty)),
+        BinOp::Xor => Ok(convert(a ^ b, ty)),
+        BinOp::Shl => left_shift(ty, a, b),
+        BinOp::Shr => right_shift(ty, a, b),
+        BinOp::Lt => Ok(u64::from(is_less(ty, a, b))),
+        BinOp::Le => Ok(u64::from(!is_less(ty, b, a))),
+        BinOp::Gt => Ok(u64::from(is_less(ty, b, a))),
+        BinOp::Ge => Ok(u64::from(!is_less(ty, a, b))),
         BinOp::Eq => Ok(u64::from(a == b)),
         BinOp::Ne => Ok(u64::from(a != b)),
     }
 }
 
-fn sum(t: IntType, a: u64, b: u64) -> u64
-    ensures exact { result ≡ wrapped t (value_of t a +ℤ value_of t b) }
-    ensures value { IsValue t result }
+fn sum(ty: IntType, a: u64, b: u64) -> u64
+    ensures exact { result ≡ wrap ty (value_of ty a +ℤ value_of ty b) }
+    ensures value { IsValue ty result }
 {
-    convert(a.wrapping_add(b), t)
+    convert(a.wrapping_add(b), ty)
 }
 
-fn difference(t: IntType, a: u64, b: u64) -> u64
-    ensures exact { result ≡ wrapped t (value_of t a -ℤ value_of t b) }
-    ensures value { IsValue t result }
+fn difference(ty: IntType, a: u64, b: u64) -> u64
+    ensures exact { result ≡ wrap ty (value_of ty a -ℤ value_of ty b) }
+    ensures value { IsValue ty result }
 {
-    convert(a.wrapping_sub(b), t)
+    convert(a.wrapping_sub(b), ty)
 }
 
-fn product(t: IntType, a: u64, b: u64) -> u64
-    ensures exact { result ≡ wrapped t (value_of t a *ℤ value_of t b) }
-    ensures value { IsValue t result }
+fn product(ty: IntType, a: u64, b: u64) -> u64
+    ensures exact { result ≡ wrap ty (value_of ty a *ℤ value_of ty b) }
+    ensures value { IsValue ty result }
 {
-    convert(a.wrapping_mul(b), t)
+    convert(a.wrapping_mul(b), ty)
 }
 
 /// Whether a division has a result.
-fn has_quotient(t: IntType, a: u64, b: u64) -> bool
-    ensures { result ≡ can_divide t a b }
+fn has_quotient(ty: IntType, a: u64, b: u64) -> bool
+    ensures { result ≡ can_divide ty a b }
 {
-    let least = u64::MAX - ((1 << (t.width() - 1)) - 1);
-    b != 0 && !(t.is_signed() && a == least && b == u64::MAX)
+    let least = u64::MAX - ((1 << (ty.width() - 1)) - 1);
+    b != 0 && !(ty.is_signed() && a == least && b == u64::MAX)
 }
 
 #[tactic(auto, unfolding(crate::specs::Integers::binary_of))]
-fn quotient(t: IntType, a: u64, b: u64) -> Result<u64, Arith>
-    requires { IsValue t a }
-    ensures exact { result ≡ binary_of BinOp.Div t a b }
-    ensures value { IfOk result (IsValue t) }
+fn quotient(ty: IntType, a: u64, b: u64) -> Result<u64, ArithFault>
+    requires { IsValue ty a }
+    ensures exact { result ≡ binary_of BinOp.Div ty a b }
+    ensures value { IfOk result (IsValue ty) }
 {
-    if has_quotient(t, a, b) {
-        Ok(convert(exact_quotient(t, a, b), t))
+    if has_quotient(ty, a, b) {
+        Ok(convert(exact_quotient(ty, a, b), ty))
     } else {
-        Err(Arith::Divide)
+        Err(ArithFault::Divide)
     }
 }
 
 /// The bits of a quotient that there is.
-fn exact_quotient(t: IntType, a: u64, b: u64) -> u64
-    requires left { IsValue t a }
-    requires exists { IsTrue (can_divide t a b) }
-    ensures { result ≡ bits_of (int_div (value_of t a) (value_of t b)) }
+fn exact_quotient(ty: IntType, a: u64, b: u64) -> u64
+    requires left { IsValue ty a }
+    requires exists { IsTrue (can_divide ty a b) }
+    ensures { result ≡ bits_of (int_div (value_of ty a) (value_of ty b)) }
 {
-    if t.is_signed() {
+    if ty.is_signed() {
         signed_quotient(a, b)
     } else {
         a / b
@@ -108,25 +108,25 @@ fn signed_quotient(a: u64, b: u64) -> u64
 }
 
 #[tactic(auto, unfolding(crate::specs::Integers::binary_of))]
-fn remainder(t: IntType, a: u64, b: u64) -> Result<u64, Arith>
-    requires { IsValue t a }
-    ensures exact { result ≡ binary_of BinOp.Rem t a b }
-    ensures value { IfOk result (IsValue t) }
+fn remainder(ty: IntType, a: u64, b: u64) -> Result<u64, ArithFault>
+    requires { IsValue ty a }
+    ensures exact { result ≡ binary_of BinOp.Rem ty a b }
+    ensures value { IfOk result (IsValue ty) }
 {
-    if has_quotient(t, a, b) {
-        Ok(convert(exact_remainder(t, a, b), t))
+    if has_quotient(ty, a, b) {
+        Ok(convert(exact_remainder(ty, a, b), ty))
     } else {
-        Err(Arith::Divide)
+        Err(ArithFault::Divide)
     }
 }
 
 /// The bits of the remainder of a division that has a result.
-fn exact_remainder(t: IntType, a: u64, b: u64) -> u64
-    requires left { IsValue t a }
-    requires exists { IsTrue (can_divide t a b) }
-    ensures { result ≡ bits_of (int_rem (value_of t a) (value_of t b)) }
+fn exact_remainder(ty: IntType, a: u64, b: u64) -> u64
+    requires left { IsValue ty a }
+    requires exists { IsTrue (can_divide ty a b) }
+    ensures { result ≡ bits_of (int_rem (value_of ty a) (value_of ty b)) }
 {
-    if t.is_signed() {
+    if ty.is_signed() {
         signed_remainder(a, b)
     } else {
         a % b
@@ -142,50 +142,50 @@ fn signed_remainder(a: u64, b: u64) -> u64
 }
 
 /// Whether a value may be shifted by this count.
-fn is_count(t: IntType, count: u64) -> bool
-    ensures { result ≡ nat_lt count (width_of t) }
+fn is_count(ty: IntType, count: u64) -> bool
+    ensures { result ≡ nat_lt count (width_of ty) }
 {
-    count < u64::from(t.width())
+    count < u64::from(ty.width())
 }
 
 #[tactic(auto, unfolding(crate::specs::Integers::binary_of))]
-fn shifted_left(t: IntType, a: u64, count: u64) -> Result<u64, Arith>
-    ensures exact { result ≡ binary_of BinOp.Shl t a count }
-    ensures value { IfOk result (IsValue t) }
+fn left_shift(ty: IntType, a: u64, count: u64) -> Result<u64, ArithFault>
+    ensures exact { result ≡ binary_of BinOp.Shl ty a count }
+    ensures value { IfOk result (IsValue ty) }
 {
-    if is_count(t, count) {
-        Ok(convert(doubled(t, a, count), t))
+    if is_count(ty, count) {
+        Ok(convert(left_shift_bits(ty, a, count), ty))
     } else {
-        Err(Arith::Shift)
+        Err(ArithFault::Shift)
     }
 }
 
 /// The bits of a value doubled `count` times.
-fn doubled(t: IntType, a: u64, count: u64) -> u64
+fn left_shift_bits(ty: IntType, a: u64, count: u64) -> u64
     requires { count < 64 }
-    ensures { result ≡ bits_of (value_of t a *ℤ pos (2 ^ count)) }
+    ensures { result ≡ bits_of (value_of ty a *ℤ pos (2 ^ count)) }
 {
     a << count
 }
 
 #[tactic(auto, unfolding(crate::specs::Integers::binary_of))]
-fn shifted_right(t: IntType, a: u64, count: u64) -> Result<u64, Arith>
-    ensures exact { result ≡ binary_of BinOp.Shr t a count }
-    ensures value { IfOk result (IsValue t) }
+fn right_shift(ty: IntType, a: u64, count: u64) -> Result<u64, ArithFault>
+    ensures exact { result ≡ binary_of BinOp.Shr ty a count }
+    ensures value { IfOk result (IsValue ty) }
 {
-    if is_count(t, count) {
-        Ok(convert(halved(t, a, count), t))
+    if is_count(ty, count) {
+        Ok(convert(right_shift_bits(ty, a, count), ty))
     } else {
-        Err(Arith::Shift)
+        Err(ArithFault::Shift)
     }
 }
 
 /// The bits of a value halved `count` times, each time rounded down.
-fn halved(t: IntType, a: u64, count: u64) -> u64
+fn right_shift_bits(ty: IntType, a: u64, count: u64) -> u64
     requires { count < 64 }
-    ensures { result ≡ bits_of (int_shr (value_of t a) count) }
+    ensures { result ≡ bits_of (int_shr (value_of ty a) count) }
 {
-    if t.is_signed() {
+    if ty.is_signed() {
         (a.cast_signed() >> count).cast_unsigned()
     } else {
         a >> count
@@ -193,10 +193,10 @@ fn halved(t: IntType, a: u64, count: u64) -> u64
 }
 
 /// Whether the value `a` is less than `b`.
-fn is_less(t: IntType, a: u64, b: u64) -> bool
-    ensures { result ≡ int_lt (value_of t a) (value_of t b) }
+fn is_less(ty: IntType, a: u64, b: u64) -> bool
+    ensures { result ≡ int_lt (value_of ty a) (value_of ty b) }
 {
-    if t.is_signed() {
+    if ty.is_signed() {
         a.cast_signed() < b.cast_signed()
     } else {
         a < b

@@ -5,9 +5,6 @@ ghost use Rattle.filc_num.specs.Statics.{payload_words_of};
 
 use std::alloc::{AllocError, Global};
 
-/// Want of memory.
-pub type NoMemory = AllocError;
-
 /// What a pointer in a static object's first contents names. An integer has `None`.
 #[derive(Clone, Copy, Debug, PartialEq, Eq)]
 pub enum StaticHalf {
@@ -35,7 +32,7 @@ pub struct StaticDef {
 
 impl StaticDef {
     /// An object of zeros.
-    pub fn zeroed(alloc: Global, bytes: u64, literal: bool) -> Result<StaticDef, NoMemory>
+    pub fn zeroed(alloc: Global, bytes: u64, literal: bool) -> Result<StaticDef, AllocError>
         ensures size { IfOk result (λ d. d.bytes ≡ bytes) }
         ensures kind { IfOk result (λ d. d.literal ≡ literal) }
         ensures words { IfOk result (λ d. d.words.items ≡ replicate (payload_words_of bytes) 0) }
@@ -59,7 +56,7 @@ impl Clone for StaticDef {
 
     ghost is_clone = { IsCopy };
 
-    fn clone(&self) -> Result<StaticDef, NoMemory> {
+    fn clone(&self) -> Result<StaticDef, AllocError> {
         let words = self.words.clone()?;
         let halves = self.halves.clone()?;
         Ok(StaticDef {

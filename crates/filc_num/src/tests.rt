@@ -64,6 +64,26 @@ fn the_type_of_an_integer(rt: HostRuntime) {
     assert_eq!(rt; IntType::I32.bytes(), 4);
     assert!(rt; IntType::I16.is_signed());
     assert!(rt; !IntType::U64.is_signed());
+    assert!(rt; IntType::I32.holds(2_147_483_647));
+    assert!(rt; !IntType::I32.holds(2_147_483_648));
+    assert!(rt; IntType::U64.holds(u64::MAX));
+}
+
+#[test]
+fn the_named_types_of_c(rt: HostRuntime) {
+    let rows = [
+        ("_Bool", CIntType::Bool, IntType::Bool),
+        ("char is signed", CIntType::Char, IntType::I8),
+        ("signed char", CIntType::SignedChar, IntType::I8),
+        ("unsigned short", CIntType::UnsignedShort, IntType::U16),
+        ("int", CIntType::Int, IntType::I32),
+        ("unsigned int", CIntType::UnsignedInt, IntType::U32),
+        ("long has 64 bits", CIntType::Long, IntType::I64),
+        ("and so has long long", CIntType::LongLong, IntType::I64),
+    ];
+    for (name, named, wanted) in rows {
+        assert_eq!(rt; named.int_type(), wanted, "{name}");
+    }
 }
 
 #[test]
@@ -79,15 +99,21 @@ fn arithmetic_on_int(rt: HostRuntime) {
         ),
         ("the least minus 1", BinOp::Sub, least, 1, Ok(2_147_483_647)),
         ("65536 squared", BinOp::Mul, 65_536, 65_536, Ok(0)),
-        ("the least by -1", BinOp::Div, least, -1, Err(Arith::Divide)),
+        (
+            "the least by -1",
+            BinOp::Div,
+            least,
+            -1,
+            Err(ArithFault::Divide),
+        ),
         (
             "the least by -1, remainder",
             BinOp::Rem,
             least,
             -1,
-            Err(Arith::Divide),
+            Err(ArithFault::Divide),
         ),
-        ("1 by 0", BinOp::Div, 1, 0, Err(Arith::Divide)),
+        ("1 by 0", BinOp::Div, 1, 0, Err(ArithFault::Divide)),
         ("-7 by 2 rounds toward zero", BinOp::Div, -7, 2, Ok(-3)),
         ("-7 by 2, remainder", BinOp::Rem, -7, 2, Ok(-1)),
         ("7 by -2, remainder", BinOp::Rem, 7, -2, Ok(1)),
@@ -111,11 +137,23 @@ fn shifts_of_int(rt: HostRuntime) {
     let rows = [
         ("left by 0", BinOp::Shl, 5, 0, Ok(5)),
         ("left by 31", BinOp::Shl, 1, 31, Ok(-2_147_483_648)),
-        ("left by the width", BinOp::Shl, 1, 32, Err(Arith::Shift)),
-        ("left by -1", BinOp::Shl, 1, -1, Err(Arith::Shift)),
+        (
+            "left by the width",
+            BinOp::Shl,
+            1,
+            32,
+            Err(ArithFault::Shift),
+        ),
+        ("left by -1", BinOp::Shl, 1, -1, Err(ArithFault::Shift)),
         ("right by 1 copies the sign", BinOp::Shr, -3, 1, Ok(-2)),
         ("right by 31", BinOp::Shr, -1, 31, Ok(-1)),
-        ("right by the width", BinOp::Shr, 1, 32, Err(Arith::Shift)),
+        (
+            "right by the width",
+            BinOp::Shr,
+            1,
+            32,
+            Err(ArithFault::Shift),
+        ),
     ];
     for (name, op, a, b, wanted) in rows {
         let a = convert(kept(a), IntType::I32);
@@ -176,7 +214,7 @@ fn the_wider_and_unsigned_types(rt: HostRuntime) {
             IntType::I64,
             i64::MIN,
             -1,
-            Err(Arith::Divide),
+            Err(ArithFault::Divide),
         ),
         (
             "the least of int as a long by -1",
@@ -193,7 +231,7 @@ fn the_wider_and_unsigned_types(rt: HostRuntime) {
             IntType::I64,
             1,
             64,
-            Err(Arith::Shift),
+            Err(ArithFault::Shift),
         ),
         (
             "2^63 of unsigned long by -1",
@@ -232,6 +270,17 @@ fn reasons_have_numbers_and_texts(rt: HostRuntime) {
     assert_eq!(rt; Reason::with_number(15).map(Reason::text), Some("abort"));
     assert_eq!(rt; Reason::with_number(16), None);
     assert_eq!(rt; Reason::Divide.number(), 11);
+}
+
+#[test]
+fn a_refusal_is_printed_with_its_line(rt: HostRuntime) -> Result<(), Fail> {
+    let refusal = Refusal {
+        kind: RefusalKind::Header,
+        line: 12,
+    };
+    let printed = format!(in rt.alloc(); "{refusal}")?;
+    assert_eq!(rt; printed.as_str(), "unknown header at line 12");
+    Ok(())
 }
 
 #[test]

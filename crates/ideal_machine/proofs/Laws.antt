@@ -1,6 +1,6 @@
 -- Laws of plays, which know no tree and no code: each is an induction over the constructors of a play.
 use Rattle.std.proofs.Common.{◌≡◌, ℕ, zero, suc, ◌+◌, ◌≤◌, List, [], ◌∷◌, ◌++◌, Bool, true, false, Result, Ok, Err, refl, sym, ◌∙◌, ap, subst, arith, append_assoc, append-nil}
-use Rattle.filc_num.specs.declared.integer.Arith.{Arith}
+use Rattle.filc_num.specs.declared.integer.ArithFault.{ArithFault}
 use Rattle.filc_num.specs.declared.reason.Reason.{Reason}
 use Rattle.ideal_machine.specs.declared.value.Value.{Value}
 use Rattle.ideal_machine.specs.declared.event.Event.{Event}
@@ -244,7 +244,7 @@ put_out_far n v line go h = λ a. each a where
   each Absent = tt
   each End = tt
 
-pub after_far : (n : ℕ) (r : Result ℕ Arith) (line : ℕ) (go : Value → Play) → ((v : Value) → IsFar n (go v)) → IsFar n (after_arithmetic r line go)
+pub after_far : (n : ℕ) (r : Result ℕ ArithFault) (line : ℕ) (go : Value → Play) → ((v : Value) → IsFar n (go v)) → IsFar n (after_arithmetic r line go)
 after_far n (Ok m) line go h = h (integer m)
 after_far n (Err refusal) line go h = trap_far n (reason_of refusal) line
 
@@ -261,6 +261,6 @@ put_out_cut v line go go' h = (after_out line go', refl, λ a. each a) where
   each Absent = refl
   each End = refl
 
-pub after_cut : (r : Result ℕ Arith) (line : ℕ) (go go' : Value → Play) → ((v : Value) → IsCutOf (go v) (go' v)) → IsCutOf (after_arithmetic r line go) (after_arithmetic r line go')
+pub after_cut : (r : Result ℕ ArithFault) (line : ℕ) (go go' : Value → Play) → ((v : Value) → IsCutOf (go v) (go' v)) → IsCutOf (after_arithmetic r line go) (after_arithmetic r line go')
 after_cut (Ok m) line go go' h = h (integer m)
 after_cut (Err refusal) line go go' h = cut_self (trap (reason_of refusal) line)

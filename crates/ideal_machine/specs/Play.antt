@@ -11,8 +11,8 @@ use Rattle.filc_num.specs.Integers.{convert_of, binary_of}
 use Rattle.filc_num.specs.declared.integer.IntType.{IntType}
 use Rattle.filc_num.specs.declared.integer.BinOp.{BinOp}
 use Rattle.filc_num.specs.declared.integer.BinOp.TheVariants.{Shl, Shr}
-use Rattle.filc_num.specs.declared.integer.Arith.{Arith}
-use Rattle.filc_num.specs.declared.integer.Arith.TheVariants.{Divide as ArithDivide, Shift as ArithShift}
+use Rattle.filc_num.specs.declared.integer.ArithFault.{ArithFault}
+use Rattle.filc_num.specs.declared.integer.ArithFault.TheVariants.{Divide as ArithDivide, Shift as ArithShift}
 use Rattle.filc_num.specs.declared.reason.Reason.{Reason}
 use Rattle.filc_num.specs.declared.reason.Reason.TheVariants.{OutputLimit, Divide, Shift}
 use Rattle.ideal_machine.specs.declared.value.Value.{Value}
@@ -148,12 +148,12 @@ right_operand Shr ty b = b
 right_operand op ty b = convert_of b ty
 
 -- why arithmetic without a result traps
-abbrev pub reason_of : Arith → Reason
+abbrev pub reason_of : ArithFault → Reason
 reason_of ArithDivide = Divide
 reason_of ArithShift = Shift
 
 -- goes on with what arithmetic gave; a refusal is a trap
-abbrev pub after_arithmetic : Result ℕ Arith → ℕ → (Value → Play) → Play
+abbrev pub after_arithmetic : Result ℕ ArithFault → ℕ → (Value → Play) → Play
 after_arithmetic (Ok n) line go = go (integer n)
 after_arithmetic (Err refusal) line go = trap (reason_of refusal) line
 

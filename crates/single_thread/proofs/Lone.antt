@@ -3,7 +3,7 @@
 use Rattle.std.proofs.Common.{ℕ, zero, suc, ◌+◌, List, Option, Some, None, Bool, true, false, Result, Ok, Err, refl, subst, sym, eq-eqb}
 use Rattle.std.specs.Prelude.{slice_get, nat_lt}
 use Rattle.filc_num.specs.Integers.{convert_of, binary_of}
-use Rattle.filc_num.specs.declared.integer.Arith.{Arith}
+use Rattle.filc_num.specs.declared.integer.ArithFault.{ArithFault}
 use Rattle.filc_num.specs.declared.reason.Reason.{Reason}
 use Rattle.filc_code.specs.declared.op.Instruction.{Instruction}
 use Rattle.filc_code.specs.declared.op.Op.{Op}
@@ -55,7 +55,7 @@ out_lone value line go h = λ a. each a where
   each Absent = tt
   each End = tt
 
-after_lone : (r : Result ℕ Arith) (line : ℕ) (go : Value → Play) → ((v : Value) → IsLone (go v)) → IsLone (after_arithmetic r line go)
+after_lone : (r : Result ℕ ArithFault) (line : ℕ) (go : Value → Play) → ((v : Value) → IsLone (go v)) → IsLone (after_arithmetic r line go)
 after_lone (Ok m) line go h = h (integer m)
 after_lone (Err refusal) line go h = trap_lone (reason_of refusal) line
 

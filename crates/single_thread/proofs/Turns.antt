@@ -2,7 +2,7 @@
 use Rattle.std.proofs.Common.{◌≡◌, ℕ, zero, suc, ◌+◌, ◌-◌, ◌<◌, ◌≤◌, List, [], ◌∷◌, ◌++◌, length, Option, Some, None, Bool, true, false, Result, Ok, Err, refl, sym, ◌∙◌, ap, subst, arith, append_assoc, append-nil, eq-eqb}
 use Rattle.std.specs.Prelude.{slice_get, option_and_then, nat_lt, ◌==◌, ◌%◌}
 use Rattle.std.proofs.lemmas.Bool.{lt-ltb, le-ltb}
-use Rattle.filc_num.specs.declared.integer.Arith.{Arith}
+use Rattle.filc_num.specs.declared.integer.ArithFault.{ArithFault}
 use Rattle.filc_num.specs.declared.reason.Reason.{Reason}
 use Rattle.filc_num.specs.declared.reason.Reason.TheVariants.{OutputLimit}
 use Rattle.filc_code.specs.declared.op.Instruction.{Instruction}
@@ -133,7 +133,7 @@ zero_seen : (code : PlainCode) (instructions : List Instruction) (n m place targ
 zero_seen code instructions zero m place target registers output = seen_turn code (nat_lt place target) (exec true instructions m target registers) output
 zero_seen code instructions (suc n) m place target registers output = refl
 
-binary_tells : (code : PlainCode) (f : PlainFunction) (old : Thread) (d line function place : ℕ) (op : Op) (registers : List Value) (output : List ℕ) (r : Result ℕ Arith) → next_place op place registers ≡ place + 1 → slice_get code.functions function ≡ Some f → old ≡ before_op function place registers op line → IsThreadOf code (after_written code (before_op function place registers op line) op line (put_result d registers r)) → ((m : ℕ) → seen_from code (suc m) old output ≡ seen_by code (after_arithmetic r line (λ v. exec true f.instructions m (place + 1) (put_at registers d v))) output) → TurnTells code old output (trap_at (after_written code (before_op function place registers op line) op line (put_result d registers r)).stage) (after_written code (before_op function place registers op line) op line (put_result d registers r)) output
+binary_tells : (code : PlainCode) (f : PlainFunction) (old : Thread) (d line function place : ℕ) (op : Op) (registers : List Value) (output : List ℕ) (r : Result ℕ ArithFault) → next_place op place registers ≡ place + 1 → slice_get code.functions function ≡ Some f → old ≡ before_op function place registers op line → IsThreadOf code (after_written code (before_op function place registers op line) op line (put_result d registers r)) → ((m : ℕ) → seen_from code (suc m) old output ≡ seen_by code (after_arithmetic r line (λ v. exec true f.instructions m (place + 1) (put_at registers d v))) output) → TurnTells code old output (trap_at (after_written code (before_op function place registers op line) op line (put_result d registers r)).stage) (after_written code (before_op function place registers op line) op line (put_result d registers r)) output
 binary_tells code f old d line function place op registers output (Ok n) goes there is h each =
     let after = put_at registers d (integer n) in
     tells_came code old output output f function (next_place op place registers) after there h

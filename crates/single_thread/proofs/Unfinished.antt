@@ -5,7 +5,7 @@ use Rattle.std.specs.Prelude.{slice_get, nat_lt, ◌%◌}
 use Rattle.std.proofs.lemmas.List.Elements.{All-get_or}
 use Rattle.std.proofs.lemmas.Option.{slice_get-get_or}
 use Rattle.filc_num.specs.Integers.{convert_of, binary_of}
-use Rattle.filc_num.specs.declared.integer.Arith.{Arith}
+use Rattle.filc_num.specs.declared.integer.ArithFault.{ArithFault}
 use Rattle.filc_code.specs.declared.op.Instruction.{Instruction}
 use Rattle.filc_code.specs.declared.op.Op.{Op}
 use Rattle.filc_code.specs.declared.op.Op.TheVariants.{Const, Move, Binary, Jump, JumpZero, Return, Out as OutOp, Exit as ExitOp}
@@ -40,7 +40,7 @@ zero_cuts : (limits : Limits) (n : ℕ) (p q : Play) (memory : Memory) → EndsO
 zero_cuts limits zero p q memory h k = h
 zero_cuts limits (suc n) p q memory h k = k
 
-arithmetic_cuts : (limits : Limits) (r : Result ℕ Arith) (line : ℕ) (go : Value → Play) (memory : Memory) → ((v : Value) → EndsOrCut limits (go v) memory) → EndsOrCut limits (after_arithmetic r line go) memory
+arithmetic_cuts : (limits : Limits) (r : Result ℕ ArithFault) (line : ℕ) (go : Value → Play) (memory : Memory) → ((v : Value) → EndsOrCut limits (go v) memory) → EndsOrCut limits (after_arithmetic r line go) memory
 arithmetic_cuts limits (Ok n) line go memory h = h (integer n)
 arithmetic_cuts limits (Err refusal) line go memory h = λ none. absurd (cc)
 

@@ -5,4 +5,4 @@ use Rattle.filc_num.proofs.operation.product.Goals as goal
 
 pub returns-clause-exact : goal.returns-clause-exact
 returns-clause-exact c =
-    c.convert.ensures.exact ∙ ap (λ (n : ℕ). convert_of n c.args.t) (sym (product_of_values c.args.t c.args.a c.args.b (omega arith) (omega arith)))
+    c.convert.ensures.exact ∙ ap (λ (n : ℕ). convert_of n c.args.ty) (sym (product_of_values c.args.ty c.args.a c.args.b (omega arith) (omega arith)))

@@ -1,6 +1,0 @@
-use Rattle.std.proofs.Common.{sym, arith}
-use Rattle.filc_num.proofs.Residues.{product_with_power}
-use Rattle.filc_num.proofs.operation.doubled.Goals as goal
-
-pub returns : goal.returns
-returns c = sym (product_with_power c.args.t c.args.a c.args.count (omega arith) (omega arith))

@@ -1,0 +1,24 @@
+-- The texts of the reasons why a file is refused: the one table, by which each fault is printed.
+use Rattle.std.specs.Prelude.{ℕ, List, ◌++◌, codes}
+use Rattle.std.specs.Fmt.{decimal}
+use Rattle.filc_num.specs.declared.refusal.Refusal.{Refusal}
+use Rattle.filc_num.specs.declared.refusal.RefusalKind.{RefusalKind}
+use Rattle.filc_num.specs.declared.refusal.RefusalKind.TheVariants.{Bad, Unclosed, Literal, TooLong, Directive, Header, Unbalanced, Expanded, Syntax, Deep, Rule}
+
+-- the text of a refusal; no rule but 0 is refused yet
+abbrev pub refusal_text : RefusalKind → List ℕ
+refusal_text Bad = codes "bad character"
+refusal_text Unclosed = codes "unclosed"
+refusal_text Literal = codes "bad literal"
+refusal_text TooLong = codes "file too long"
+refusal_text Directive = codes "bad directive"
+refusal_text Header = codes "unknown header"
+refusal_text Unbalanced = codes "unbalanced conditional"
+refusal_text Expanded = codes "too many tokens"
+refusal_text Syntax = codes "syntax"
+refusal_text Deep = codes "too deep"
+refusal_text (Rule n) = codes "not built"
+
+-- the text with its line
+abbrev pub refusal_at_line : Refusal → List ℕ
+refusal_at_line refusal = refusal_text refusal.kind ++ (codes " at line " ++ decimal refusal.line)
