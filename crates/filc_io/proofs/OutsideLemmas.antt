@@ -1,9 +1,9 @@
 -- Bytes that are appended or given one part after another.
-use Rattle.std.proofs.Common.{◌≡◌, ℕ, ◌+◌, ◌-◌, ◌≤◌, List, [], ◌++◌, Option, Some, None, IsSomeAnd, length, take, drop, subst, refl, ap, sym, ◌∙◌, append_assoc, append-nil, arith, length-drop}
+use Rattle.std.proofs.Common.{◌≡◌, ℕ, ◌+◌, ◌-◌, ◌≤◌, List, [], ◌++◌, Option, Some, None, IfSome, IsSomeAnd, length, take, drop, subst, refl, ap, sym, ◌∙◌, append_assoc, append-nil, arith, length-drop}
 use Rattle.std.specs.List.{find}
 use Rattle.std.specs.Option.{option_map}
 use Rattle.std.specs.Str.{bytes_eq}
-use Rattle.std.proofs.lemmas.List.{take_all}
+use Rattle.std.proofs.lemmas.List.{take_all, length-take}
 use Rattle.std.proofs.Math.Seq.{take-add}
 use Rattle.filc_io.specs.Outside.{appended, file_named}
 
@@ -32,3 +32,9 @@ pub file_named-found : (name : List ℕ) (files : List (List ℕ × List ℕ)) (
 file_named-found name files file front bytes n found is_file is_front =
     let P : Option (List ℕ × List ℕ) → Type 0 = λ o. IsSomeAnd (option_map (λ f. f.1) o) (λ b. front ≡ take n b) in
     subst P found (is_front ∙ ap (take n) is_file)
+
+-- the front of what a reader has left is all that it gives up to a limit
+pub front_of_left : (left : Option (List ℕ)) (limit : ℕ) (before read front : List ℕ) → before ≡ [] → IfSome (option_map (take limit) left) (λ bytes. read ≡ before ++ bytes) → front ≡ take limit read → IfSome left (λ bytes. front ≡ take limit bytes)
+front_of_left None limit before read front none given is = tt
+front_of_left (Some bytes) limit before read front none given is =
+    is ∙ (ap (take limit) (given ∙ ap (λ start. start ++ take limit bytes) none) ∙ take_all limit (take limit bytes) (omega (arith, length-take limit bytes)))

@@ -1,5 +1,6 @@
 -- What callers see of a sink in memory.
-use Rattle.std.specs.Prelude.{ℕ, List}
+use Rattle.std.specs.Prelude.{ℕ, List, Some}
+use Rattle.filc_io.specs.Outside.{SinkState}
 use Rattle.filc_io.specs.declared.mem_sink.MemSink.{MemSink}
 
 -- the bytes that it took
@@ -25,3 +26,7 @@ calls_made sink = sink.outages.calls
 -- how many faults there were
 abbrev pub faults_of : MemSink → ℕ
 faults_of sink = sink.outages.faults.count
+
+-- its state: all is told
+abbrev pub state_of : MemSink → SinkState
+state_of sink = record { taken = Some (bytes_taken sink); faults = faults_of sink }

@@ -1,5 +1,6 @@
 -- What callers see of a source in memory.
-use Rattle.std.specs.Prelude.{ℕ, List, drop}
+use Rattle.std.specs.Prelude.{ℕ, List, Some, drop}
+use Rattle.filc_io.specs.Outside.{SourceState}
 use Rattle.filc_io.specs.declared.mem_source.MemSource.{MemSource}
 
 -- the bytes that it has left
@@ -21,3 +22,7 @@ calls_made source = source.outages.calls
 -- how many faults there were
 abbrev pub faults_of : MemSource → ℕ
 faults_of source = source.outages.faults.count
+
+-- its state: all is told
+abbrev pub state_of : MemSource → SourceState
+state_of source = record { left = Some (bytes_left source); faults = faults_of source }

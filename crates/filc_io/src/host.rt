@@ -2,14 +2,13 @@
 ghost use Rattle.std.specs.Prelude.{◌≡◌, ◌≤◌, None, IfOk, vec_len};
 
 use crate::faults::FaultCount;
-use crate::outside::{Failed, FileFault, Files, READ_LIMIT, Sink, Source};
+use crate::outside::{Failed, FileFault, Files, MOST_READ, Sink, Source};
+use crate::retry::{read_again, read_front, write_again};
 use std::alloc::Global;
 use std::fs::File;
-use std::io::{Read, Write};
+use std::io;
+use std::io::ErrorKind;
 use std::rt::{HostRuntime, Stderr, Stdin, Stdout};
-
-/// How many bytes of a file are asked for at a time.
-const PART: usize = 65_536;
 
 /// The host's files.
 #[derive(Drop)]
@@ -21,7 +20,7 @@ pub struct HostFiles {
 impl HostFiles {
     /// The files that the process sees.
     pub fn new(rt: &HostRuntime) -> HostFiles
-        ensures { ⟦<HostFiles as Files>⟧.faults result ≡ 0 }
+        ensures { (⟦<HostFiles as Files>⟧.state result).faults ≡ 0 }
     {
         HostFiles {
             runtime: *rt,
@@ -31,17 +30,16 @@ impl HostFiles {
 }
 
 impl Files for HostFiles {
-    ghost contents = { λ _. None };
-
-    ghost faults = { λ files. files.faults.count };
+    ghost state = { λ files. record { contents = None; faults = files.faults.count } };
 
     ghost counted = { λ files. files.faults.in_range };
 
     fn read_file(&mut self, alloc: Global, name: &str) -> Result<Vec<u8>, FileFault> {
-        match read_front(&self.runtime, alloc, name) {
+        match front_of_file(&self.runtime, alloc, name) {
             Ok(bytes) => Ok(bytes),
-            Err(Stop::NoMemory) => Err(FileFault::NoMemory),
-            Err(Stop::Failed) => {
+            Err(fault) if fault.kind() == ErrorKind::OutOfMemory => Err(FileFault::NoMemory),
+            // A missing file is a failure as any other.
+            Err(_) => {
                 self.faults.raise();
                 Err(FileFault::Failed)
             }
@@ -49,31 +47,11 @@ impl Files for HostFiles {
     }
 }
 
-/// Why a file of the host was not read. A missing file is a failure as any other.
-#[derive(Drop)]
-enum Stop {
-    Failed,
-    NoMemory,
-}
-
-/// The file's bytes, or its first [`READ_LIMIT`] bytes, past which nothing is read.
-fn read_front(rt: &HostRuntime, alloc: Global, name: &str) -> Result<Vec<u8>, Stop>
-    ensures { IfOk result (λ bytes. vec_len bytes ≤ READ_LIMIT) }
+/// The file's bytes, or its first [`MOST_READ`] bytes.
+fn front_of_file(rt: &HostRuntime, alloc: Global, name: &str) -> io::Result<Vec<u8>>
+    ensures { IfOk result (λ bytes. vec_len bytes ≤ MOST_READ) }
 {
-    let mut file = File::open(rt, name).map_err(|_| Stop::Failed)?;
-    let mut bytes = Vec::new(alloc);
-    let mut part = [0u8; PART];
-    while bytes.len() < READ_LIMIT {
-        let wanted = PART.min(READ_LIMIT - bytes.len());
-        let count = file.read(&mut part[..wanted]).map_err(|_| Stop::Failed)?;
-        if count == 0 {
-            return Ok(bytes);
-        }
-        bytes
-            .extend_from_slice(&part[..count])
-            .map_err(|_| Stop::NoMemory)?;
-    }
-    Ok(bytes)
+    read_front(alloc, File::open(rt, name)?)
 }
 
 /// Standard input.
@@ -86,7 +64,7 @@ pub struct HostSource {
 impl HostSource {
     /// The process's standard input.
     pub fn new(rt: &HostRuntime) -> HostSource
-        ensures { ⟦<HostSource as Source>⟧.faults result ≡ 0 }
+        ensures { (⟦<HostSource as Source>⟧.state result).faults ≡ 0 }
     {
         HostSource {
             stdin: rt.stdin(),
@@ -96,14 +74,12 @@ impl HostSource {
 }
 
 impl Source for HostSource {
-    ghost left = { λ _. None };
-
-    ghost faults = { λ source. source.faults.count };
+    ghost state = { λ source. record { left = None; faults = source.faults.count } };
 
     ghost counted = { λ source. source.faults.in_range };
 
     fn read(&mut self, into: &mut [u8]) -> Result<usize, Failed> {
-        match self.stdin.read(into) {
+        match read_again(&mut self.stdin, into) {
             Ok(count) => Ok(count),
             Err(_) => {
                 self.faults.raise();
@@ -130,7 +106,7 @@ pub struct HostSink {
 impl HostSink {
     /// The process's standard output.
     pub fn out(rt: &HostRuntime) -> HostSink
-        ensures { ⟦<HostSink as Sink>⟧.faults result ≡ 0 }
+        ensures { (⟦<HostSink as Sink>⟧.state result).faults ≡ 0 }
     {
         HostSink {
             stream: Stream::Output(rt.stdout()),
@@ -140,7 +116,7 @@ impl HostSink {
 
     /// The process's standard error.
     pub fn err(rt: &HostRuntime) -> HostSink
-        ensures { ⟦<HostSink as Sink>⟧.faults result ≡ 0 }
+        ensures { (⟦<HostSink as Sink>⟧.state result).faults ≡ 0 }
     {
         HostSink {
             stream: Stream::Error(rt.stderr()),
@@ -150,16 +126,14 @@ impl HostSink {
 }
 
 impl Sink for HostSink {
-    ghost taken = { λ _. None };
-
-    ghost faults = { λ sink. sink.faults.count };
+    ghost state = { λ sink. record { taken = None; faults = sink.faults.count } };
 
     ghost counted = { λ sink. sink.faults.in_range };
 
     fn write(&mut self, piece: &[u8]) -> Result<usize, Failed> {
         let wrote = match &mut self.stream {
-            Stream::Output(out) => out.write(piece),
-            Stream::Error(err) => err.write(piece),
+            Stream::Output(out) => write_again(out, piece),
+            Stream::Error(err) => write_again(err, piece),
         };
         match wrote {
             Ok(count) if count > 0 => Ok(count),

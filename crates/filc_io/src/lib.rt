@@ -15,6 +15,7 @@ mod mem_sink;
 mod mem_source;
 mod outages;
 mod outside;
+mod retry;
 #[cfg(test)]
 mod tests;
 mod write_all;
@@ -23,9 +24,5 @@ pub use host::{HostFiles, HostSink, HostSource};
 pub use mem_files::MemFiles;
 pub use mem_sink::MemSink;
 pub use mem_source::MemSource;
-pub use outside::{Failed, FileFault, Files, READ_LIMIT, Sink, Source};
-use std::alloc::AllocError;
+pub use outside::{Failed, FileFault, Files, MOST_READ, Sink, Source};
 pub use write_all::{Wrote, write_all_of};
-
-/// Want of memory.
-pub type NoMemory = AllocError;

@@ -1,10 +1,9 @@
 //! A sink in memory: what it took is told, and stated calls fail.
 ghost use Rattle.std.specs.Prelude.{◌≡◌, ◌<◌, ◌≤◌, [], IfOk, vec_len, vec_capacity};
 
-use crate::NoMemory;
 use crate::outages::Outages;
 use crate::outside::{Failed, Sink};
-use std::alloc::Global;
+use std::alloc::{AllocError, Global};
 
 /// A sink in memory, which holds a stated number of bytes at most, and takes a stated number of
 /// them at most at a call.
@@ -25,7 +24,12 @@ impl MemSink {
     /// A sink that can hold `room` bytes, has none, and takes at most `most` of them at a call. It
     /// fails where its room is full, and at the calls whose numbers are in `fails`; they are
     /// counted from 0.
-    pub fn new(alloc: Global, room: usize, most: usize, fails: &[u64]) -> Result<MemSink, NoMemory>
+    pub fn new(
+        alloc: Global,
+        room: usize,
+        most: usize,
+        fails: &[u64],
+    ) -> Result<MemSink, AllocError>
         requires { 0 < most }
         ensures taken { IfOk result (λ sink. bytes_taken sink ≡ []) }
         ensures room { IfOk result (λ sink. room_of sink ≡ room) }
@@ -51,13 +55,11 @@ impl MemSink {
 }
 
 impl Sink for MemSink {
-    ghost use Rattle.std.specs.Prelude.{◌≡◌, ◌-◌, ◌<◌, ◌↔◌, ◌⊎◌, ◌++◌, length, take, min, Some, IfOk, IsErr, OnOk, OnErr, Contains};
+    ghost use Rattle.std.specs.Prelude.{◌≡◌, ◌-◌, ◌<◌, ◌↔◌, ◌⊎◌, ◌++◌, length, take, min, IfOk, IsErr, OnOk, OnErr, Contains};
     ghost use Rattle.filc_io.specs.Counts.{count_after};
-    ghost use Rattle.filc_io.specs.MemSink.{bytes_taken, room_of, most_taken, failing_calls, calls_made, faults_of};
+    ghost use Rattle.filc_io.specs.MemSink.{bytes_taken, room_of, most_taken, failing_calls, calls_made, faults_of, state_of};
 
-    ghost taken = { λ sink. Some (bytes_taken sink) };
-
-    ghost faults = { faults_of };
+    ghost state = { state_of };
 
     ghost counted = { λ sink. sink.outages.faults.in_range };
 
@@ -72,7 +74,8 @@ impl Sink for MemSink {
         // The other calls take as much as they may.
         ensures taken { IfOk result (λ n. n ≡ min (most_taken self.old)
             (min (length piece.now) (room_of self.old - length (bytes_taken self.old)))) }
-        ensures front { IfOk result (λ n. bytes_taken self.new ≡ bytes_taken self.old ++ take n piece.now) }
+        ensures front { IfOk result (λ n.
+            bytes_taken self.new ≡ bytes_taken self.old ++ take n piece.now) }
 
         ensures err { OnErr result (bytes_taken self.new ≡ bytes_taken self.old) }
         ensures calls { calls_made self.new ≡ count_after (calls_made self.old) }

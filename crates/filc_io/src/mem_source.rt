@@ -1,10 +1,9 @@
 //! A source in memory: its bytes are told, and stated calls fail.
 ghost use Rattle.std.specs.Prelude.{◌≡◌, ◌<◌, ◌≤◌, IfOk, vec_len};
 
-use crate::NoMemory;
 use crate::outages::Outages;
 use crate::outside::{Failed, Source};
-use std::alloc::Global;
+use std::alloc::{AllocError, Global};
 
 /// A source in memory, which gives a stated number of bytes at most at a call.
 #[derive(Drop)]
@@ -27,7 +26,7 @@ impl MemSource {
         bytes: &[u8],
         most: usize,
         fails: &[u64],
-    ) -> Result<MemSource, NoMemory>
+    ) -> Result<MemSource, AllocError>
         requires { 0 < most }
         ensures left { IfOk result (λ source. bytes_left source ≡ bytes.now) }
         ensures most { IfOk result (λ source. most_given source ≡ most) }
@@ -45,13 +44,11 @@ impl MemSource {
 }
 
 impl Source for MemSource {
-    ghost use Rattle.std.specs.Prelude.{◌≡◌, ◌<◌, ◌↔◌, length, take, drop, min, Some, IfOk, IsErr, OnOk, OnErr, Contains};
+    ghost use Rattle.std.specs.Prelude.{◌≡◌, ◌<◌, ◌↔◌, length, take, drop, min, IfOk, IsErr, OnOk, OnErr, Contains};
     ghost use Rattle.filc_io.specs.Counts.{count_after};
-    ghost use Rattle.filc_io.specs.MemSource.{bytes_left, most_given, failing_calls, calls_made, faults_of};
+    ghost use Rattle.filc_io.specs.MemSource.{bytes_left, most_given, failing_calls, calls_made, faults_of, state_of};
 
-    ghost left = { λ source. Some (bytes_left source) };
-
-    ghost faults = { faults_of };
+    ghost state = { state_of };
 
     ghost counted = { λ source. source.outages.faults.in_range };
 

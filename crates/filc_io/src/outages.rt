@@ -2,9 +2,8 @@
 ghost use Rattle.std.specs.Prelude.{◌≡◌, ℕ, List, ◌↔◌, IsTrue, IfOk, Contains, if◌then◌else◌};
 ghost use Rattle.filc_io.specs.Counts.{count_after};
 
-use crate::NoMemory;
 use crate::faults::FaultCount;
-use std::alloc::Global;
+use std::alloc::{AllocError, Global};
 
 /// Which calls fail, how many were made, and how many faults there were.
 ///
@@ -18,7 +17,7 @@ pub(crate) struct Outages {
 
 impl Outages {
     /// No call was made yet.
-    pub(crate) fn new(alloc: Global, fails: &[u64]) -> Result<Outages, NoMemory>
+    pub(crate) fn new(alloc: Global, fails: &[u64]) -> Result<Outages, AllocError>
         ensures fails { IfOk result (λ o. o.fails.items ≡ fails.now) }
         ensures calls { IfOk result (λ o. o.calls ≡ 0) }
         ensures faults { IfOk result (λ o. o.faults.count ≡ 0) }

@@ -1,10 +1,135 @@
-//! The objects in memory with failing calls and short writes, and each object of the host once.
+//! The objects in memory with failing calls and short writes, streams that a signal interrupts, and each
+//! object of the host once.
 
-use crate::outside::{FileFault, Files, READ_LIMIT, Sink, Source};
+ghost use Rattle.std.specs.Prelude.{◌≤◌, IfOk};
+
+use crate::outside::{FileFault, Files, MOST_READ, Sink, Source};
+use crate::retry::{read_again, read_front, write_again};
 use crate::{
     Failed, HostFiles, HostSink, HostSource, MemFiles, MemSink, MemSource, Wrote, write_all_of,
 };
+use std::io;
+use std::io::{ErrorKind, Read, Write};
 use std::test::Fail;
+
+/// What a call of a stream of the system comes to.
+#[derive(Clone, Copy)]
+enum Call {
+    /// A signal interrupts it.
+    Interrupted,
+    /// It fails.
+    Fails,
+    /// So many bytes are given or taken, as far as there is room for them.
+    Moves(usize),
+}
+
+/// A stream whose calls go as listed, and from then on all in one way.
+#[derive(Drop)]
+struct Scripted<'a> {
+    calls: &'a [Call],
+    rest: Call,
+}
+
+impl Scripted<'_> {
+    /// The next call on so many bytes.
+    fn next(&mut self, room: usize) -> io::Result<usize>
+        ensures { IfOk result (λ n. n ≤ room) }
+    {
+        let mut call = self.rest;
+        if let [first, calls @ ..] = self.calls {
+            call = *first;
+            self.calls = calls;
+        }
+        match call {
+            Call::Interrupted => Err(io::Error::from(ErrorKind::Interrupted)),
+            Call::Fails => Err(io::Error::from(ErrorKind::BrokenPipe)),
+            Call::Moves(count) => Ok(count.min(room)),
+        }
+    }
+}
+
+impl Read for Scripted<'_> {
+    fn read(&mut self, into: &mut [u8]) -> io::Result<usize> {
+        self.next(into.len())
+    }
+}
+
+impl Write for Scripted<'_> {
+    fn write(&mut self, piece: &[u8]) -> io::Result<usize> {
+        self.next(piece.len())
+    }
+
+    fn flush(&mut self) -> io::Result<()> {
+        Ok(())
+    }
+}
+
+#[test]
+fn a_read_goes_on_after_a_signal(rt: HostRuntime) -> Result<(), Fail> {
+    // name, the calls, those after them, how many bytes the front of a file has
+    for (name, calls, rest, front) in [
+        (
+            "a short read isn't the end",
+            [Call::Moves(2), Call::Moves(1)].as_slice(),
+            Call::Moves(0),
+            Some(3),
+        ),
+        (
+            "a signal before and behind a byte",
+            [Call::Interrupted, Call::Moves(1), Call::Interrupted].as_slice(),
+            Call::Moves(0),
+            Some(1),
+        ),
+        (
+            "a fault behind a byte",
+            [Call::Moves(1)].as_slice(),
+            Call::Fails,
+            None,
+        ),
+        (
+            "no end",
+            [].as_slice(),
+            Call::Moves(100_000),
+            Some(MOST_READ),
+        ),
+    ] {
+        let read = read_front(rt.alloc(), Scripted { calls, rest });
+        assert_eq!(rt; read.ok().map(|bytes| bytes.len()), front, "{name}");
+    }
+    Ok(())
+}
+
+#[test]
+fn one_call_is_tried_again_a_thousand_times(rt: HostRuntime) {
+    // name, the calls, those after them, how many bytes are moved
+    for (name, calls, rest, moved) in [
+        (
+            "a signal",
+            [Call::Interrupted].as_slice(),
+            Call::Moves(2),
+            Some(2),
+        ),
+        ("a fault", [].as_slice(), Call::Fails, None),
+        (
+            "a signal, and then a fault",
+            [Call::Interrupted, Call::Fails].as_slice(),
+            Call::Moves(2),
+            None,
+        ),
+        (
+            "999 signals",
+            [Call::Interrupted; 999].as_slice(),
+            Call::Moves(2),
+            Some(2),
+        ),
+        ("no end of signals", [].as_slice(), Call::Interrupted, None),
+    ] {
+        let read = read_again(&mut Scripted { calls, rest }, &mut [0; 3]);
+        assert_eq!(rt; read.ok(), moved, "{name}");
+        let wrote = write_again(&mut Scripted { calls, rest }, b"abc");
+        assert_eq!(rt; wrote.ok(), moved, "{name}");
+    }
+}
 
 #[test]
 fn a_text_is_written_whole_or_as_a_prefix(rt: HostRuntime) -> Result<(), Fail> {
@@ -56,7 +181,7 @@ fn a_file_is_read_by_its_name(rt: HostRuntime) -> Result<(), Fail> {
     files.add("a.c", b"int a;")?;
     files.add("b.c", b"int b;")?;
     files.add("a.c", b"int c;")?;
-    files.add("long.c", vec![in alloc; 0; READ_LIMIT + 1]?.as_slice())?;
+    files.add("long.c", vec![in alloc; 0; MOST_READ + 1]?.as_slice())?;
     assert_eq!(rt;
         files.read_file(alloc, "a.c"),
         Ok(Vec::from_slice(alloc, b"int c;")?)
@@ -69,7 +194,7 @@ fn a_file_is_read_by_its_name(rt: HostRuntime) -> Result<(), Fail> {
     );
     assert_eq!(rt;
         files.read_file(alloc, "long.c").map(|v| v.len()),
-        Ok(READ_LIMIT)
+        Ok(MOST_READ)
     );
     Ok(())
 }
@@ -90,7 +215,7 @@ fn the_host_gives_and_takes(rt: HostRuntime) -> Result<(), Fail> {
     assert_eq!(rt; files.read_file(alloc, "/dev/null"), Ok(Vec::new(alloc)));
     assert_eq!(rt;
         files.read_file(alloc, "/dev/zero").map(|v| v.len()),
-        Ok(READ_LIMIT)
+        Ok(MOST_READ)
     );
     assert!(rt; HostSource::new(&rt).read(&mut [0; 4]).is_ok());
     assert_eq!(rt; HostSink::out(&rt).write(b"\n"), Ok(1));

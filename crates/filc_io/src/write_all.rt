@@ -1,7 +1,8 @@
 //! Writing all of a text, or a prefix of it where the sink fails.
+
 ghost use Rattle.std.specs.Prelude.{◌≡◌, ◌<◌, ◌≤◌, length, take, IfErr, OnOk, OnErr};
 ghost use Rattle.filc_io.specs.Counts.{HasRisen};
-ghost use Rattle.filc_io.specs.Outside.{appended};
+ghost use Rattle.filc_io.specs.Outside.{Takes};
 
 use crate::outside::Sink;
 
@@ -13,12 +14,12 @@ pub struct Wrote {
 
 /// Writes all bytes: each call offers all that is left, until nothing is left or the sink fails.
 pub fn write_all_of<S: Sink>(sink: &mut S, bytes: &[u8]) -> Result<(), Wrote>
-    ensures all { OnOk result (S.taken sink.new ≡ appended (S.taken sink.old) bytes.now) }
+    ensures all { OnOk result (Takes (S.state sink.old) (S.state sink.new) bytes.now) }
     ensures prefix { IfErr result (λ wrote.
-        S.taken sink.new ≡ appended (S.taken sink.old) (take wrote.count bytes.now)) }
+        Takes (S.state sink.old) (S.state sink.new) (take wrote.count bytes.now)) }
     ensures not_all { IfErr result (λ wrote. wrote.count < length bytes.now) }
-    ensures failed { OnErr result (HasRisen (S.faults sink.old) (S.faults sink.new)) }
-    ensures never_falls { S.faults sink.old ≤ S.faults sink.new }
+    ensures failed { OnErr result (HasRisen (S.state sink.old).faults (S.state sink.new).faults) }
+    ensures never_falls { (S.state sink.old).faults ≤ (S.state sink.new).faults }
 {
     let mut count = 0;
     while count < bytes.len() {

@@ -2,7 +2,7 @@
 #![tactic(auto)]
 
 use filc_io::{HostFiles, HostSink, HostSource};
-use filc_top::{Ending, filc, status_of, tell};
+use filc_top::{Ending, filc, status_of, write_line};
 use std::env;
 use std::env::Args;
 use std::io::ErrorKind;
@@ -12,31 +12,34 @@ fn main(rt: HostRuntime) -> ExitCode {
     let mut err = HostSink::err(&rt);
     let ending = match env::args(&rt) {
         Ok(words) => call(&rt, words, &mut err),
-        Err(fault) if fault.kind() == ErrorKind::OutOfMemory => told(&mut err, Ending::NoMemory),
-        Err(_) => told(&mut err, Ending::Usage),
+        Err(fault) if fault.kind() == ErrorKind::OutOfMemory => end_before_call(
+            &mut err,
+            Ending::NoMemory,
+        ),
+        Err(_) => end_before_call(&mut err, Ending::Usage),
     };
     ExitCode::from(status_of(&ending))
 }
 
 /// Writes the line of an ending that comes before the call.
-fn told(err: &mut HostSink, ending: Ending) -> Ending {
-    let _written = tell(err, &ending);
+fn end_before_call(err: &mut HostSink, ending: Ending) -> Ending {
+    let _written = write_line(err, &ending);
     ending
 }
 
-/// The call, on the words behind the program's name.
+/// The call, on the words after the program's name.
 fn call(rt: &HostRuntime, mut words: Args, err: &mut HostSink) -> Ending {
     let _program = words.next();
-    let mut kept = Vec::new(rt.alloc());
+    let mut arguments = Vec::new(rt.alloc());
     for word in words {
-        if kept.push(word).is_err() {
-            return told(err, Ending::NoMemory);
+        if arguments.push(word).is_err() {
+            return end_before_call(err, Ending::NoMemory);
         }
     }
     let mut texts = Vec::new(rt.alloc());
-    for word in &kept {
+    for word in &arguments {
         if texts.push(word.as_str()).is_err() {
-            return told(err, Ending::NoMemory);
+            return end_before_call(err, Ending::NoMemory);
         }
     }
     let mut files = HostFiles::new(rt);

@@ -4,6 +4,8 @@ use filc_io::{MemFiles, MemSink, MemSource};
 use filc_num::Reason;
 use filc_top::{Ending, Refusal, RefusalKind, filc};
 use std::alloc::Global;
+use std::process::Abort;
+use std::str::from_utf8;
 use std::test::Fail;
 
 /// A call, and what is to come of it. The file is `a.c`.
@@ -44,22 +46,28 @@ const USAGE_LINE: &str = "filc: usage: run, threads, check or code FILE, or demo
 
 const RUN: &[&str] = &["run", "a.c"];
 
-/// Makes the call, and says whether all came as the row says.
-fn comes(alloc: Global, row: &Row<'_>, fails: &Fails<'_>) -> Result<bool, Fail> {
-    if fails.most == 0 {
-        return Ok(false);
-    }
+/// Makes the call, and compares what came with what the row wants.
+fn check(rt: &impl Abort, alloc: Global, row: &Row<'_>, fails: &Fails<'_>) -> Result<(), Fail> {
+    assert!(rt; fails.most > 0);
+    let name = row.name;
     let mut files = MemFiles::new(alloc, fails.files)?;
     files.add("a.c", row.file)?;
     let mut input = MemSource::new(alloc, b"", 1, &[])?;
     let mut out = MemSink::new(alloc, 2_000_000, fails.most, fails.out)?;
     let mut err = MemSink::new(alloc, 200, 200, fails.err)?;
     let ending = filc(alloc, row.words, &mut files, &mut input, &mut out, &mut err);
-    Ok(
-        ending == row.ending
-            && out.bytes() == row.out.as_bytes()
-            && err.bytes() == row.err.as_bytes(),
-    )
+    assert_eq!(rt; ending, row.ending, "{name}: the ending");
+    assert_eq!(rt;
+        from_utf8(out.bytes()).ok(),
+        Some(row.out),
+        "{name}: the output"
+    );
+    assert_eq!(rt;
+        from_utf8(err.bytes()).ok(),
+        Some(row.err),
+        "{name}: the line"
+    );
+    Ok(())
 }
 
 /// A row on the words `run a.c` whose program exits.
@@ -108,7 +116,7 @@ fn expressions_have_their_values(rt: HostRuntime) -> Result<(), Fail> {
         ),
         exits("the end of main", "int main(void){}", 0),
     ] {
-        assert!(rt; comes(rt.alloc(), &row, &NONE)?, "{}", row.name);
+        check(&rt, rt.alloc(), &row, &NONE)?;
     }
     Ok(())
 }
@@ -128,9 +136,9 @@ fn files_without_the_form_are_refused(rt: HostRuntime) -> Result<(), Fail> {
             "putchar is not declared",
             "int main(void){putchar(65);return 1;}",
         ),
-        refused("something behind", "int main(void){return 1;};"),
+        refused("something after it", "int main(void){return 1;};"),
     ] {
-        assert!(rt; comes(rt.alloc(), &row, &NONE)?, "{}", row.name);
+        check(&rt, rt.alloc(), &row, &NONE)?;
     }
     Ok(())
 }
@@ -145,20 +153,13 @@ fn bytes_that_are_no_text_are_refused(rt: HostRuntime) -> Result<(), Fail> {
         out: "",
         err: NOT_BUILT_LINE,
     };
-    assert!(rt; comes(rt.alloc(), &row, &NONE)?, "{}", row.name);
+    check(&rt, rt.alloc(), &row, &NONE)?;
     Ok(())
 }
 
 #[test]
 fn statements_run(rt: HostRuntime) -> Result<(), Fail> {
-    let abc = Row {
-        name: "ABC",
-        words: RUN,
-        file: b"int putchar(int c);int main(void){int i;while(i<3){putchar(65+i);i=i+1;}return i;}",
-        ending: Ending::Exited(3),
-        out: "ABC",
-        err: "",
-    };
+    let letters = abc("ABC", Ending::Exited(3), "ABC");
     let endless = Row {
         name: "an endless loop",
         words: &["run", "a.c", "--turns", "1000"],
@@ -180,8 +181,8 @@ fn statements_run(rt: HostRuntime) -> Result<(), Fail> {
         "int main(void){int a;{a=5;{a=a*a;}}return a;}",
         25,
     );
-    for row in [abc, endless, before, block] {
-        assert!(rt; comes(rt.alloc(), &row, &NONE)?, "{}", row.name);
+    for row in [letters, endless, before, block] {
+        check(&rt, rt.alloc(), &row, &NONE)?;
     }
     Ok(())
 }
@@ -209,63 +210,127 @@ fn other_words_are_no_command(rt: HostRuntime) -> Result<(), Fail> {
             out: "",
             err: USAGE_LINE,
         };
-        assert!(rt; comes(rt.alloc(), &row, &NONE)?, "{name}");
+        check(&rt, rt.alloc(), &row, &NONE)?;
+    }
+    Ok(())
+}
+
+/// A program that puts out `ABC` and returns 3.
+const ABC: &str =
+    "int putchar(int c);int main(void){int i;while(i<3){putchar(65+i);i=i+1;}return i;}";
+
+/// A row on a file and its words, of which nothing comes but an ending and its line.
+fn silent<'a>(
+    name: &'a str,
+    words: &'a [&'a str],
+    file: &'a str,
+    ending: Ending,
+    err: &'a str,
+) -> Row<'a> {
+    Row {
+        name,
+        words,
+        file: file.as_bytes(),
+        ending,
+        out: "",
+        err,
+    }
+}
+
+/// A row on the program that puts out `ABC`, of which an output takes this much.
+fn abc<'a>(name: &'a str, ending: Ending, out: &'a str) -> Row<'a> {
+    Row {
+        name,
+        words: RUN,
+        file: ABC.as_bytes(),
+        ending,
+        out,
+        err: "",
+    }
+}
+
+#[test]
+fn a_device_that_fails_ends_the_call(rt: HostRuntime) -> Result<(), Fail> {
+    let answer = "int main(void){return 42;}";
+    let read_fault = "filc: read fault\n";
+    for (row, fails) in [
+        (
+            silent("the file fails", RUN, answer, Ending::ReadFault, read_fault),
+            Fails {
+                files: &[0],
+                ..NONE
+            },
+        ),
+        (
+            silent(
+                "another name",
+                &["run", "b.c"],
+                answer,
+                Ending::ReadFault,
+                read_fault,
+            ),
+            NONE,
+        ),
+        (
+            silent("the line is not written", RUN, "", Ending::WriteFault, ""),
+            Fails { err: &[0], ..NONE },
+        ),
+        (
+            abc(
+                "two bytes are written, and then the output fails",
+                Ending::WriteFault,
+                "AB",
+            ),
+            Fails {
+                out: &[1],
+                most: 2,
+                ..NONE
+            },
+        ),
+    ] {
+        check(&rt, rt.alloc(), &row, &fails)?;
     }
     Ok(())
 }
 
 #[test]
-fn a_device_that_fails_ends_the_call(rt: HostRuntime) -> Result<(), Fail> {
-    let unread = Row {
-        name: "the file fails",
-        words: RUN,
-        file: b"int main(void){return 42;}",
-        ending: Ending::ReadFault,
-        out: "",
-        err: "filc: read fault\n",
-    };
-    let fails = Fails {
-        files: &[0],
-        ..NONE
-    };
-    assert!(rt; comes(rt.alloc(), &unread, &fails)?, "{}", unread.name);
-    let missing = Row {
-        name: "another name",
-        words: &["run", "b.c"],
-        file: b"int main(void){return 42;}",
-        ending: Ending::ReadFault,
-        out: "",
-        err: "filc: read fault\n",
-    };
-    assert!(rt; comes(rt.alloc(), &missing, &NONE)?, "{}", missing.name);
-    let untold = Row {
-        name: "the line is not written",
-        words: RUN,
-        file: b"",
-        ending: Ending::WriteFault,
-        out: "",
-        err: "",
-    };
-    let fails = Fails { err: &[0], ..NONE };
-    assert!(rt; comes(rt.alloc(), &untold, &fails)?, "{}", untold.name);
-    let unwritten = Row {
-        name: "two bytes are written, and then the output fails",
-        words: RUN,
-        file: b"int putchar(int c);int main(void){int i;while(i<3){putchar(65+i);i=i+1;}return i;}",
-        ending: Ending::WriteFault,
-        out: "AB",
-        err: "",
-    };
-    let fails = Fails {
-        out: &[1],
-        most: 2,
-        ..NONE
-    };
-    assert!(rt;
-        comes(rt.alloc(), &unwritten, &fails)?,
-        "{}",
-        unwritten.name
-    );
+fn a_device_is_called_no_more_than_it_must(rt: HostRuntime) -> Result<(), Fail> {
+    for (row, fails) in [
+        (
+            exits("the file is read once", "int main(void){return 42;}", 42),
+            Fails {
+                files: &[1],
+                ..NONE
+            },
+        ),
+        (
+            silent(
+                "no file is read for words that are no command",
+                &["walk", "a.c"],
+                "int main(void){return 42;}",
+                Ending::Usage,
+                USAGE_LINE,
+            ),
+            Fails {
+                files: &[0],
+                ..NONE
+            },
+        ),
+        (
+            abc("all bytes are offered at once", Ending::Exited(3), "ABC"),
+            Fails { out: &[1], ..NONE },
+        ),
+        (
+            abc("all that are left are offered", Ending::Exited(3), "ABC"),
+            Fails {
+                out: &[2],
+                most: 2,
+                ..NONE
+            },
+        ),
+    ] {
+        check(&rt, rt.alloc(), &row, &fails)?;
+    }
     Ok(())
 }
 
@@ -295,7 +360,7 @@ fn brackets_nest_199_deep(rt: HostRuntime) -> Result<(), Fail> {
         out: "",
         err: "",
     };
-    assert!(rt; comes(alloc, &row, &NONE)?, "{}", row.name);
+    check(&rt, alloc, &row, &NONE)?;
     let more = in_brackets(alloc, 200)?;
     let row = Row {
         name: "200 brackets",
@@ -305,7 +370,7 @@ fn brackets_nest_199_deep(rt: HostRuntime) -> Result<(), Fail> {
         out: "",
         err: NOT_BUILT_LINE,
     };
-    assert!(rt; comes(alloc, &row, &NONE)?, "{}", row.name);
+    check(&rt, alloc, &row, &NONE)?;
     Ok(())
 }
 

@@ -1,17 +1,17 @@
--- Each ending's own clause follows from the headline.
+-- Each ending's own clause follows from the outcome.
 use Rattle.std.proofs.Common.{◌≡◌, ◌⊎◌, inl, inr, ℕ, List, [], refl, sym, ap, subst, ◌∙◌, arith, ◌≤◌}
 use Rattle.std.specs.Prelude.{Option, Some, None}
-use Rattle.filc_io.specs.Outside.{appended}
+use Rattle.filc_num.specs.declared.refusal.Refusal.{Refusal}
+use Rattle.filc_io.specs.Outside.{FilesState, Takes, appended}
 use Rattle.ideal_machine.specs.Memory.{Finish, Exited, Trapped, default_limits}
 use Rattle.tree_play.specs.Legal.{finish_of}
 use Rattle.single_thread.specs.Alone.{history_of_run}
+use Rattle.filc_top.specs.Commands.{IsNoCommand}
 use Rattle.filc_top.specs.Endings.{line_of, not_built}
-use Rattle.filc_top.specs.Headline.{Contents, ending_of, IsRunOf, IsCause, usage, unread, refused, ran, no_memory, IsWritten, whole, out_failed, err_failed, Outcome}
-use Rattle.filc_top.specs.Clauses.{IsNoCommand, IsOfRun, IsAnswer, HasRun, HasNoForm, HasNotRead, IsLineAlone}
+use Rattle.filc_top.specs.Headline.{Streams, World, ending_of, HasRun, HasNoForm, HasNotRead, IsCause, usage, unread, refused, ran, no_memory, IsWritten, whole, out_failed, err_failed, IsOutcome}
+use Rattle.filc_top.specs.Clauses.{IsOfRun, IsAnswer, IsPutOut, HasRunWhole, HasWriteFault, SaysEnding}
 use Rattle.filc_top.specs.declared.ending.Ending.{Ending}
-use Rattle.filc_top.specs.declared.ending.Refusal.{Refusal}
 use Rattle.filc_top.specs.declared.ending.Ending.TheVariants as ending
-use Rattle.filc_top.proofs.Pieces.{appended-nothing}
 
 -- a number for each kind of ending, by which two kinds are told apart
 abbrev kind : Ending → ℕ
@@ -32,168 +32,189 @@ run_kind (Some (Exited status)) = refl
 run_kind (Some (Trapped reason line)) = refl
 run_kind None = refl
 
-of_run_kind : (e : Ending) → IsOfRun e → kind e ≡ 4
-of_run_kind (ending.Exited status) is = refl
-of_run_kind (ending.Trapped reason line) is = refl
-of_run_kind ending.Spent is = refl
-of_run_kind ending.Usage is = absurd is
-of_run_kind ending.ReadFault is = absurd is
-of_run_kind (ending.Refused refusal) is = absurd is
-of_run_kind ending.NoMemory is = absurd is
-of_run_kind ending.WriteFault is = absurd is
-of_run_kind ending.Listed is = absurd is
-of_run_kind ending.Deadlock is = absurd is
-of_run_kind ending.InputLimit is = absurd is
-
 kind_of_run : (e : Ending) → kind e ≡ 4 → IsOfRun e
 kind_of_run (ending.Exited status) is = tt
 kind_of_run (ending.Trapped reason line) is = tt
 kind_of_run ending.Spent is = tt
-kind_of_run ending.Usage is = absurd (omega (arith, is))
-kind_of_run ending.ReadFault is = absurd (omega (arith, is))
-kind_of_run (ending.Refused refusal) is = absurd (omega (arith, is))
-kind_of_run ending.NoMemory is = absurd (omega (arith, is))
-kind_of_run ending.WriteFault is = absurd (omega (arith, is))
-kind_of_run ending.Listed is = absurd (omega (arith, is))
-kind_of_run ending.Deadlock is = absurd (omega (arith, is))
-kind_of_run ending.InputLimit is = absurd (omega (arith, is))
+kind_of_run other is = absurd (omega (arith, is))
 
-answer_kind : (e : Ending) → (kind e ≡ 6 → ⊥) → IsAnswer e
-answer_kind (ending.Exited status) never = tt
-answer_kind (ending.Trapped reason line) never = tt
-answer_kind ending.Spent never = tt
-answer_kind ending.Usage never = tt
-answer_kind ending.ReadFault never = tt
-answer_kind (ending.Refused refusal) never = tt
-answer_kind ending.NoMemory never = tt
-answer_kind ending.WriteFault never = tt
-answer_kind ending.Listed never = never refl
-answer_kind ending.Deadlock never = never refl
-answer_kind ending.InputLimit never = never refl
+of_run_kind : (e : Ending) → IsOfRun e → kind e ≡ 4
+of_run_kind (ending.Exited status) is = refl
+of_run_kind (ending.Trapped reason line) is = refl
+of_run_kind ending.Spent is = refl
+of_run_kind other is = absurd is
 
-module _ (words : List (List ℕ)) (contents : Contents) (FilesFailed : Type 0) (result : Ending) (out_old out_new err_old err_new : Option (List ℕ)) (OutFailed ErrFailed : Type 0) (o : Outcome words contents FilesFailed result out_old out_new err_old err_new OutFailed ErrFailed) where
-  cause_kind : IsCause words contents FilesFailed o.cause o.output → kind o.cause ≤ 4
-  cause_kind (usage none cause output) = omega (arith, ap kind cause)
-  cause_kind (unread name turns run why cause output) = omega (arith, ap kind cause)
-  cause_kind (refused name file turns run is_file none cause output) = omega (arith, ap kind cause)
-  cause_kind (ran name file turns program run is_file form of_run) = omega (arith, ap kind of_run.cause_is, run_kind (finish_of (history_of_run default_limits turns of_run.code)))
-  cause_kind (no_memory name turns run cause output) = omega (arith, ap kind cause)
+answer_kind : (e : Ending) → kind e ≤ 5 → IsAnswer e
+answer_kind ending.Listed small = absurd (omega (arith, small))
+answer_kind ending.Deadlock small = absurd (omega (arith, small))
+answer_kind ending.InputLimit small = absurd (omega (arith, small))
+answer_kind other small = tt
 
-  -- a result that is no write fault is the cause, and all was written
-  all_written : (kind result ≡ 5 → ⊥) → (result ≡ o.cause) × (out_new ≡ appended out_old o.output) × (err_new ≡ appended err_old (line_of o.cause))
-  all_written no_fault = by o.written
+ran_kind : (words : List (List ℕ)) (files : FilesState) (cause : Ending) (output : List ℕ) → HasRun words files cause output → kind cause ≡ 4
+ran_kind words files cause output why = ap kind why.run.cause_is ∙ run_kind (finish_of (history_of_run default_limits why.turns why.run.code))
+
+-- to take nothing changes nothing
+takes_nothing : (output : List ℕ) (old new : Streams) → output ≡ [] → Takes old.out new.out output → Takes old.out new.out []
+takes_nothing output old new none is = is ∙ ap (λ (text : List ℕ). appended old.out.taken text) none
+
+module _ (words : List (List ℕ)) (old new : World) (result : Ending) (o : IsOutcome words old new result) where
+  abbrev Cause : Type 0
+  Cause = IsCause words old.files new.files o.cause o.output
+
+  cause_kind : Cause → kind o.cause ≤ 4
+  cause_kind (usage none stay silent) = omega (arith, ap kind silent.cause_is)
+  cause_kind (unread why silent) = omega (arith, ap kind silent.cause_is)
+  cause_kind (refused why silent) = omega (arith, ap kind silent.cause_is)
+  cause_kind (ran why) = omega (arith, ran_kind words old.files o.cause o.output why)
+  cause_kind (no_memory why silent) = omega (arith, ap kind silent.cause_is)
+
+  -- all was written, and the result is the cause
+  abbrev AllWritten : Type 0
+  AllWritten = (result ≡ o.cause) × Takes old.streams.out new.streams.out o.output × Takes old.streams.err new.streams.err (line_of o.cause)
+
+  -- or a sink failed
+  abbrev Faulted : Type 0
+  Faulted = (result ≡ ending.WriteFault) × HasWriteFault old.streams new.streams
+
+  written_or_faulted : IsWritten o.cause o.output old.streams new.streams result → AllWritten ⊎ Faulted
+  written_or_faulted (whole out err is) = inl (is, out, err)
+  written_or_faulted (out_failed out err is) = inr (is, inl out.failed)
+  written_or_faulted (err_failed out err is) = inr (is, inr err.failed)
+
+  all_written : (result ≡ ending.WriteFault → ⊥) → AllWritten
+  all_written no_fault = by (written_or_faulted o.written)
     where
-      by : IsWritten o.cause o.output result out_old out_new err_old err_new OutFailed ErrFailed → (result ≡ o.cause) × (out_new ≡ appended out_old o.output) × (err_new ≡ appended err_old (line_of o.cause))
-      by (whole is out err) = (is, out, err)
-      by (out_failed count few is out err failed) = absurd (no_fault (ap kind is))
-      by (err_failed count few is out err failed) = absurd (no_fault (ap kind is))
+      by : AllWritten ⊎ Faulted → AllWritten
+      by (inl all) = all
+      by (inr fault) = absurd (no_fault fault.0)
 
-  pub usage_is : result ≡ ending.Usage → IsNoCommand words
-  usage_is is = by o.caused (sym (all_written (λ five. omega (arith, five, ap kind is))).0 ∙ is)
+  -- an answer of another kind is the cause
+  is_cause : (e : Ending) → result ≡ e → (kind e ≡ 5 → ⊥) → o.cause ≡ e
+  is_cause e is other = sym (all_written (λ fault. other (ap kind (sym is ∙ fault)))).0 ∙ is
+
+  usage_is : result ≡ ending.Usage → IsNoCommand words
+  usage_is is = by o.caused
     where
-      by : IsCause words contents FilesFailed o.cause o.output → o.cause ≡ ending.Usage → IsNoCommand words
-      by (usage none cause output) same = none
-      by (unread name turns run why cause output) same = absurd (omega (arith, ap kind same, ap kind cause))
-      by (refused name file turns run is_file none cause output) same = absurd (omega (arith, ap kind same, ap kind cause))
-      by (ran name file turns program run is_file form of_run) same = absurd (omega (arith, ap kind same, ap kind of_run.cause_is, run_kind (finish_of (history_of_run default_limits turns of_run.code))))
-      by (no_memory name turns run cause output) same = absurd (omega (arith, ap kind same, ap kind cause))
+      zero_kind : kind o.cause ≡ 0
+      zero_kind = ap kind (is_cause ending.Usage is (λ h. omega (arith, h)))
 
-  pub usage_comes : IsNoCommand words → (result ≡ ending.Usage) ⊎ (result ≡ ending.WriteFault)
-  usage_comes none = by o.written
+      by : Cause → IsNoCommand words
+      by (usage none stay silent) = none
+      by (unread why silent) = absurd (omega (arith, zero_kind, ap kind silent.cause_is))
+      by (refused why silent) = absurd (omega (arith, zero_kind, ap kind silent.cause_is))
+      by (ran why) = absurd (omega (arith, zero_kind, ran_kind words old.files o.cause o.output why))
+      by (no_memory why silent) = absurd (omega (arith, zero_kind, ap kind silent.cause_is))
+
+  -- words that are no command have one cause
+  of_no_command : IsNoCommand words → (o.cause ≡ ending.Usage) × (new.files ≡ old.files)
+  of_no_command none = by o.caused
     where
-      is_usage : IsCause words contents FilesFailed o.cause o.output → o.cause ≡ ending.Usage
-      is_usage (usage never cause output) = cause
-      is_usage (unread name turns run why cause output) = absurd (none name turns run)
-      is_usage (refused name file turns run is_file never cause output) = absurd (none name turns run)
-      is_usage (ran name file turns program run is_file form of_run) = absurd (none name turns run)
-      is_usage (no_memory name turns run cause output) = absurd (none name turns run)
+      by : Cause → (o.cause ≡ ending.Usage) × (new.files ≡ old.files)
+      by (usage never stay silent) = (silent.cause_is, stay)
+      by (unread why silent) = absurd (none why.name why.turns why.words_are)
+      by (refused why silent) = absurd (none why.file_is.name why.turns why.file_is.words_are)
+      by (ran why) = absurd (none why.file_is.name why.turns why.file_is.words_are)
+      by (no_memory why silent) = absurd (none why.name why.turns why.words_are)
 
-      by : IsWritten o.cause o.output result out_old out_new err_old err_new OutFailed ErrFailed → (result ≡ ending.Usage) ⊎ (result ≡ ending.WriteFault)
-      by (whole is out err) = inl (is ∙ is_usage o.caused)
-      by (out_failed count few is out err failed) = inr is
-      by (err_failed count few is out err failed) = inr is
-
-  pub refused_is : (refusal : Refusal) → result ≡ ending.Refused refusal → (refusal ≡ not_built) × HasNoForm words contents
-  refused_is refusal is = by o.caused (sym (all_written (λ five. omega (arith, five, ap kind is))).0 ∙ is)
+  no_command_is : IsNoCommand words → (result ≡ ending.Usage) ⊎ (result ≡ ending.WriteFault)
+  no_command_is none = by (written_or_faulted o.written)
     where
-      by : IsCause words contents FilesFailed o.cause o.output → o.cause ≡ ending.Refused refusal → (refusal ≡ not_built) × HasNoForm words contents
-      by (usage none cause output) same = absurd (omega (arith, ap kind same, ap kind cause))
-      by (unread name turns run why cause output) same = absurd (omega (arith, ap kind same, ap kind cause))
-      by (refused name file turns run is_file none cause output) same =
-          let both : ending.Refused refusal ≡ ending.Refused not_built = sym same ∙ cause in
-          (cc, record { file = file; turns = turns; file_is = record { name = name; words_are = run; file_is = is_file }; no_form = none })
-      by (ran name file turns program run is_file form of_run) same = absurd (omega (arith, ap kind same, ap kind of_run.cause_is, run_kind (finish_of (history_of_run default_limits turns of_run.code))))
-      by (no_memory name turns run cause output) same = absurd (omega (arith, ap kind same, ap kind cause))
+      by : AllWritten ⊎ Faulted → (result ≡ ending.Usage) ⊎ (result ≡ ending.WriteFault)
+      by (inl all) = inl (all.0 ∙ (of_no_command none).0)
+      by (inr fault) = inr fault.0
 
-  pub ran_is : IsOfRun result → HasRun words contents result out_old out_new err_old err_new
-  ran_is of_result = by o.caused
+  refused_is : (refusal : Refusal) → result ≡ ending.Refused refusal → (refusal ≡ not_built) × HasNoForm words old.files
+  refused_is refusal is = by o.caused
     where
-      written : (result ≡ o.cause) × (out_new ≡ appended out_old o.output) × (err_new ≡ appended err_old (line_of o.cause))
-      written = all_written (λ five. omega (arith, five, of_run_kind result of_result))
+      cause_is : o.cause ≡ ending.Refused refusal
+      cause_is = is_cause (ending.Refused refusal) is (λ h. omega (arith, h))
 
-      four : kind o.cause ≡ 4
-      four = ap kind (sym written.0) ∙ of_run_kind result of_result
+      by : Cause → (refusal ≡ not_built) × HasNoForm words old.files
+      by (usage none stay silent) = absurd (omega (arith, ap kind cause_is, ap kind silent.cause_is))
+      by (unread why silent) = absurd (omega (arith, ap kind cause_is, ap kind silent.cause_is))
+      by (refused why silent) =
+          let both : ending.Refused refusal ≡ ending.Refused not_built = sym cause_is ∙ silent.cause_is in
+          (cc, why)
+      by (ran why) = absurd (omega (arith, ap kind cause_is, ran_kind words old.files o.cause o.output why))
+      by (no_memory why silent) = absurd (omega (arith, ap kind cause_is, ap kind silent.cause_is))
 
-      by : IsCause words contents FilesFailed o.cause o.output → HasRun words contents result out_old out_new err_old err_new
-      by (usage none cause output) = absurd (omega (arith, four, ap kind cause))
-      by (unread name turns run why cause output) = absurd (omega (arith, four, ap kind cause))
-      by (refused name file turns run is_file none cause output) = absurd (omega (arith, four, ap kind cause))
-      by (ran name file turns program run is_file form of_run) =
+  read_fault_is : result ≡ ending.ReadFault → HasNotRead words old.files new.files
+  read_fault_is is = by o.caused
+    where
+      one_kind : kind o.cause ≡ 1
+      one_kind = ap kind (is_cause ending.ReadFault is (λ h. omega (arith, h)))
+
+      by : Cause → HasNotRead words old.files new.files
+      by (usage none stay silent) = absurd (omega (arith, one_kind, ap kind silent.cause_is))
+      by (unread why silent) = why
+      by (refused why silent) = absurd (omega (arith, one_kind, ap kind silent.cause_is))
+      by (ran why) = absurd (omega (arith, one_kind, ran_kind words old.files o.cause o.output why))
+      by (no_memory why silent) = absurd (omega (arith, one_kind, ap kind silent.cause_is))
+
+  write_fault_is : result ≡ ending.WriteFault → HasWriteFault old.streams new.streams
+  write_fault_is is = by (written_or_faulted o.written)
+    where
+      by : AllWritten ⊎ Faulted → HasWriteFault old.streams new.streams
+      by (inl all) = absurd (omega (arith, ap kind (sym all.0 ∙ is), cause_kind o.caused))
+      by (inr fault) = fault.1
+
+  ran_is : IsOfRun result → HasRunWhole words old new result
+  ran_is of_run = by o.caused
+    where
+      written : AllWritten
+      written = all_written (λ fault. omega (arith, ap kind fault, of_run_kind result of_run))
+
+      four_kind : kind o.cause ≡ 4
+      four_kind = ap kind (sym written.0) ∙ of_run_kind result of_run
+
+      line : Takes old.streams.err new.streams.err (line_of result)
+      line = written.2 ∙ ap (λ (e : Ending). appended old.streams.err.taken (line_of e)) (sym written.0)
+
+      by : Cause → HasRunWhole words old new result
+      by (usage none stay silent) = absurd (omega (arith, four_kind, ap kind silent.cause_is))
+      by (unread why silent) = absurd (omega (arith, four_kind, ap kind silent.cause_is))
+      by (refused why silent) = absurd (omega (arith, four_kind, ap kind silent.cause_is))
+      by (ran why) =
           record {
-            file = file;
-            turns = turns;
-            program = program;
             output = o.output;
-            file_is = record { name = name; words_are = run; file_is = is_file };
-            form = form;
-            run = subst (λ (e : Ending). IsRunOf program turns e o.output) (sym written.0) of_run;
-            written = written.1;
-            line = written.2 ∙ ap (λ (e : Ending). appended err_old (line_of e)) (sym written.0);
+            ran = subst (λ (e : Ending). HasRun words old.files e o.output) (sym written.0) why;
+            written = record { out = written.1; err = line };
           }
-      by (no_memory name turns run cause output) = absurd (omega (arith, four, ap kind cause))
-
-  pub read_fault_is : result ≡ ending.ReadFault → HasNotRead words contents FilesFailed
-  read_fault_is is = by o.caused (sym (all_written (λ five. omega (arith, five, ap kind is))).0 ∙ is)
-    where
-      by : IsCause words contents FilesFailed o.cause o.output → o.cause ≡ ending.ReadFault → HasNotRead words contents FilesFailed
-      by (usage none cause output) same = absurd (omega (arith, ap kind same, ap kind cause))
-      by (unread name turns run why cause output) same = record { name = name; turns = turns; words_are = run; why = why }
-      by (refused name file turns run is_file none cause output) same = absurd (omega (arith, ap kind same, ap kind cause))
-      by (ran name file turns program run is_file form of_run) same = absurd (omega (arith, ap kind same, ap kind of_run.cause_is, run_kind (finish_of (history_of_run default_limits turns of_run.code))))
-      by (no_memory name turns run cause output) same = absurd (omega (arith, ap kind same, ap kind cause))
-
-  pub write_fault_is : result ≡ ending.WriteFault → OutFailed ⊎ ErrFailed
-  write_fault_is fault = by o.written
-    where
-      by : IsWritten o.cause o.output result out_old out_new err_old err_new OutFailed ErrFailed → OutFailed ⊎ ErrFailed
-      by (whole is out err) = absurd (omega (arith, ap kind is, ap kind fault, cause_kind o.caused))
-      by (out_failed count few is out err failed) = inl failed
-      by (err_failed count few is out err failed) = inr failed
+      by (no_memory why silent) = absurd (omega (arith, four_kind, ap kind silent.cause_is))
 
   -- where nothing was run, nothing is put out
-  pub line_alone : (IsOfRun result → ⊥) → (result ≡ ending.WriteFault → ⊥) → IsLineAlone result out_old out_new err_old err_new
-  line_alone not_run no_fault = by o.written
+  line_alone_is : (IsOfRun result → ⊥) → (result ≡ ending.WriteFault → ⊥) → IsPutOut [] old.streams new.streams result
+  line_alone_is not_run no_fault = record {
+    out = takes_nothing o.output old.streams new.streams (nothing o.caused) written.1;
+    err = written.2 ∙ ap (λ (e : Ending). appended old.streams.err.taken (line_of e)) (sym written.0);
+  }
     where
-      nothing : IsCause words contents FilesFailed o.cause o.output → (IsOfRun o.cause → ⊥) → o.output ≡ []
-      nothing (usage none cause output) never = output
-      nothing (unread name turns run why cause output) never = output
-      nothing (refused name file turns run is_file none cause output) never = output
-      nothing (ran name file turns program run is_file form of_run) never = absurd (never (kind_of_run o.cause (ap kind of_run.cause_is ∙ run_kind (finish_of (history_of_run default_limits turns of_run.code)))))
-      nothing (no_memory name turns run cause output) never = output
+      written : AllWritten
+      written = all_written no_fault
 
-      by : IsWritten o.cause o.output result out_old out_new err_old err_new OutFailed ErrFailed → IsLineAlone result out_old out_new err_old err_new
-      by (whole is out err) =
-          record {
-            out = out ∙ (ap (λ (text : List ℕ). appended out_old text) (nothing o.caused (λ run. not_run (subst IsOfRun (sym is) run))) ∙ appended-nothing out_old);
-            err = err ∙ ap (λ (e : Ending). appended err_old (line_of e)) (sym is);
-          }
-      by (out_failed count few is out err failed) = absurd (no_fault is)
-      by (err_failed count few is out err failed) = absurd (no_fault is)
+      nothing : Cause → o.output ≡ []
+      nothing (usage none stay silent) = silent.output_is
+      nothing (unread why silent) = silent.output_is
+      nothing (refused why silent) = silent.output_is
+      nothing (ran why) = absurd (not_run (kind_of_run result (ap kind written.0 ∙ ran_kind words old.files o.cause o.output why)))
+      nothing (no_memory why silent) = silent.output_is
 
-  pub answer_is : IsAnswer result
-  answer_is = answer_kind result (λ six. by six o.written)
+  answer_is : IsAnswer result
+  answer_is = answer_kind result (by (written_or_faulted o.written))
     where
-      by : kind result ≡ 6 → IsWritten o.cause o.output result out_old out_new err_old err_new OutFailed ErrFailed → ⊥
-      by six (whole is out err) = omega (arith, six, ap kind is, cause_kind o.caused)
-      by six (out_failed count few is out err failed) = omega (arith, six, ap kind is)
-      by six (err_failed count few is out err failed) = omega (arith, six, ap kind is)
+      by : AllWritten ⊎ Faulted → kind result ≤ 5
+      by (inl all) = omega (arith, ap kind all.0, cause_kind o.caused)
+      by (inr fault) = omega (arith, ap kind fault.0)
+
+  pub says_ending : SaysEnding words old new result
+  says_ending = record {
+    ran = ran_is;
+    refused = refused_is;
+    usage = usage_is;
+    no_command = no_command_is;
+    files_stay = λ none. (of_no_command none).1;
+    read_fault = read_fault_is;
+    write_fault = write_fault_is;
+    line_alone = line_alone_is;
+    answer = answer_is;
+  }

@@ -1,23 +1,13 @@
 -- What the headline says of each ending by itself.
-use Rattle.std.specs.Prelude.{◌≡◌, ◌⊎◌, ℕ, List, Option}
-use Rattle.c_tree.specs.Plain.{PlainProgram}
-use Rattle.form_reader.specs.Form.{HasForm}
-use Rattle.filc_io.specs.Outside.{appended}
-use Rattle.filc_top.specs.Commands.{IsRun}
-use Rattle.filc_top.specs.Endings.{line_of}
-use Rattle.filc_top.specs.Headline.{Contents, IsFile, HasNoFile, IsRunOf}
+use Rattle.std.specs.Prelude.{◌≡◌, ◌⊎◌, ℕ, List, []}
+use Rattle.filc_io.specs.Counts.{HasRisen}
+use Rattle.filc_io.specs.Outside.{Takes}
+use Rattle.filc_num.specs.declared.refusal.Refusal.{Refusal}
+use Rattle.filc_top.specs.Commands.{IsNoCommand}
+use Rattle.filc_top.specs.Endings.{line_of, not_built}
+use Rattle.filc_top.specs.Headline.{Streams, World, HasRun, HasNoForm, HasNotRead}
 use Rattle.filc_top.specs.declared.ending.Ending.{Ending}
 use Rattle.filc_top.specs.declared.ending.Ending.TheVariants as ending
-
--- the words are no command
-abbrev pub IsNoCommand : List (List ℕ) → Type 0
-IsNoCommand words = (name : List ℕ) (turns : ℕ) → IsRun words name turns → ⊥
-
--- the words run this file, which holds these bytes as far as it is told
-pub record RunsFile (words : List (List ℕ)) (contents : Contents) (file : List ℕ) (turns : ℕ) : Type 0 where
-  pub name : List ℕ
-  pub words_are : IsRun words name turns
-  pub file_is : IsFile contents name file
 
 -- the endings of a program that was run
 abbrev pub IsOfRun : Ending → Type 0
@@ -33,33 +23,30 @@ IsAnswer ending.Deadlock = ⊥
 IsAnswer ending.InputLimit = ⊥
 IsAnswer other = Unit {0}
 
--- an ending that comes from a run: the file is a program, and its run so ended and put out what was written
-pub record HasRun (words : List (List ℕ)) (contents : Contents) (result : Ending) (out_old out_new err_old err_new : Option (List ℕ)) : Type 0 where
-  pub file : List ℕ
-  pub turns : ℕ
-  pub program : PlainProgram
+-- this was put out, and then the ending has its line
+pub record IsPutOut (output : List ℕ) (old new : Streams) (result : Ending) : Type 0 where
+  pub out : Takes old.out new.out output
+  pub err : Takes old.err new.err (line_of result)
+
+-- the file is a program, its run so ended, and what it put out was written
+pub record HasRunWhole (words : List (List ℕ)) (old new : World) (result : Ending) : Type 0 where
   pub output : List ℕ
-  pub file_is : RunsFile words contents file turns
-  pub form : HasForm file program
-  pub run : IsRunOf program turns result output
-  pub written : out_new ≡ appended out_old output
-  pub line : err_new ≡ appended err_old (line_of result)
+  pub ran : HasRun words old.files result output
+  pub written : IsPutOut output old.streams new.streams result
 
--- a file that was refused has not the form
-pub record HasNoForm (words : List (List ℕ)) (contents : Contents) : Type 0 where
-  pub file : List ℕ
-  pub turns : ℕ
-  pub file_is : RunsFile words contents file turns
-  pub no_form : (program : PlainProgram) → HasForm file program → ⊥
+-- a sink failed
+abbrev pub HasWriteFault : Streams → Streams → Type 0
+HasWriteFault old new = HasRisen old.out.faults new.out.faults ⊎ HasRisen old.err.faults new.err.faults
 
--- the file could not be read
-pub record HasNotRead (words : List (List ℕ)) (contents : Contents) (FilesFailed : Type 0) : Type 0 where
-  pub name : List ℕ
-  pub turns : ℕ
-  pub words_are : IsRun words name turns
-  pub why : FilesFailed ⊎ HasNoFile contents name
-
--- nothing was put out, and the ending has its line
-pub record IsLineAlone (result : Ending) (out_old out_new err_old err_new : Option (List ℕ)) : Type 0 where
-  pub out : out_new ≡ out_old
-  pub err : err_new ≡ appended err_old (line_of result)
+-- each ending by itself
+pub record SaysEnding (words : List (List ℕ)) (old new : World) (result : Ending) : Type 0 where
+  pub ran : IsOfRun result → HasRunWhole words old new result
+  pub refused : (refusal : Refusal) → result ≡ ending.Refused refusal → (refusal ≡ not_built) × HasNoForm words old.files
+  pub usage : result ≡ ending.Usage → IsNoCommand words
+  pub no_command : IsNoCommand words → (result ≡ ending.Usage) ⊎ (result ≡ ending.WriteFault)
+  pub files_stay : IsNoCommand words → new.files ≡ old.files
+  pub read_fault : result ≡ ending.ReadFault → HasNotRead words old.files new.files
+  pub write_fault : result ≡ ending.WriteFault → HasWriteFault old.streams new.streams
+  -- where nothing was run, nothing is put out
+  pub line_alone : (IsOfRun result → ⊥) → (result ≡ ending.WriteFault → ⊥) → IsPutOut [] old.streams new.streams result
+  pub answer : IsAnswer result

@@ -1,6 +1,7 @@
 -- The words of a call: which of them are a command.
-use Rattle.std.specs.Prelude.{◌≡◌, ℕ, ◌<◌, ◌≤◌, Bool, false, List, [], ◌∷◌, length, codes, ◌==◌}
+use Rattle.std.specs.Prelude.{◌≡◌, ℕ, ◌<◌, ◌≤◌, Bool, false, List, [], ◌∷◌, length, Option, Some, None, codes, ◌==◌}
 use Rattle.std.specs.Fmt.{decimal}
+use Rattle.filc_top.specs.declared.command.Command.{Command}
 
 -- whether a dash begins the word
 abbrev pub begins_with_dash : List ℕ → Bool
@@ -17,8 +18,28 @@ pub record IsTurns (turns : ℕ) : Type 0 where
   pub least : 1 ≤ turns
   pub most : turns ≤ 1000000000
 
--- `run FILE`, where `--turns N` may stand before or behind the name: these words run this file, for so many turns
+-- `run FILE`, where `--turns N` may stand before or after the name: these words run this file, for so many turns
 pub data IsRun (words : List (List ℕ)) (name : List ℕ) (turns : ℕ) : Type 0 where
   alone : words ≡ codes "run" ∷ name ∷ [] → IsFileName name → turns ≡ 100000000 → IsRun words name turns
   before : words ≡ codes "run" ∷ codes "--turns" ∷ decimal turns ∷ name ∷ [] → IsFileName name → IsTurns turns → IsRun words name turns
-  behind : words ≡ codes "run" ∷ name ∷ codes "--turns" ∷ decimal turns ∷ [] → IsFileName name → IsTurns turns → IsRun words name turns
+  after : words ≡ codes "run" ∷ name ∷ codes "--turns" ∷ decimal turns ∷ [] → IsFileName name → IsTurns turns → IsRun words name turns
+
+-- the words are no command
+abbrev pub IsNoCommand : List (List ℕ) → Type 0
+IsNoCommand words = (name : List ℕ) (turns : ℕ) → IsRun words name turns → ⊥
+
+-- the command that the words are, where they are one
+abbrev pub IsCommandOf : List (List ℕ) → Option Command → Type 0
+IsCommandOf words (Some command) = IsRun words command.name.now command.turns
+IsCommandOf words None = IsNoCommand words
+
+-- the number of turns that the word spells, where it spells one
+abbrev pub IsTurnsOf : List ℕ → Option ℕ → Type 0
+IsTurnsOf word (Some turns) = IsTurns turns × (word ≡ decimal turns)
+IsTurnsOf word None = (turns : ℕ) → IsTurns turns → word ≡ decimal turns → ⊥
+
+-- the file of this name for so many turns as the word spells, where the one is a name and the other spells turns
+abbrev pub IsFileFor : List ℕ → List ℕ → Option Command → Type 0
+IsFileFor name word (Some command) =
+    (command.name.now ≡ name) × IsFileName name × IsTurns command.turns × (word ≡ decimal command.turns)
+IsFileFor name word None = IsFileName name → (turns : ℕ) → IsTurns turns → word ≡ decimal turns → ⊥

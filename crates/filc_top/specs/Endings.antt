@@ -2,11 +2,11 @@
 use Rattle.std.specs.Prelude.{ℕ, List, [], ◌∷◌, ◌++◌, codes}
 use Rattle.std.specs.Fmt.{decimal}
 use Rattle.filc_num.specs.Reasons.{text_of}
+use Rattle.filc_num.specs.Refusals.{refusal_text}
+use Rattle.filc_num.specs.declared.refusal.Refusal.{Refusal}
+use Rattle.filc_num.specs.declared.refusal.RefusalKind.TheVariants.{Rule}
 use Rattle.filc_top.specs.declared.ending.Ending.{Ending}
 use Rattle.filc_top.specs.declared.ending.Ending.TheVariants.{Exited, Listed, Refused, Trapped, Deadlock, Spent, InputLimit, ReadFault, WriteFault, Usage, NoMemory}
-use Rattle.filc_top.specs.declared.ending.Refusal.{Refusal}
-use Rattle.filc_top.specs.declared.ending.RefusalKind.{RefusalKind}
-use Rattle.filc_top.specs.declared.ending.RefusalKind.TheVariants.{Bad, Unclosed, Literal, TooLong, Directive, Header, Unbalanced, Expanded, Syntax, Deep, Rule}
 
 -- the status of the program
 abbrev pub status_of : Ending → ℕ
@@ -21,20 +21,6 @@ status_of InputLimit = 69
 status_of (Trapped reason line) = 70
 status_of Deadlock = 71
 status_of Spent = 72
-
--- the text of a refusal; no rule but 0 is refused yet
-abbrev pub kind_text : RefusalKind → List ℕ
-kind_text Bad = codes "bad character"
-kind_text Unclosed = codes "unclosed"
-kind_text Literal = codes "bad literal"
-kind_text TooLong = codes "file too long"
-kind_text Directive = codes "bad directive"
-kind_text Header = codes "unknown header"
-kind_text Unbalanced = codes "unbalanced conditional"
-kind_text Expanded = codes "too many tokens"
-kind_text Syntax = codes "syntax"
-kind_text Deep = codes "too deep"
-kind_text (Rule n) = codes "not built"
 
 -- the refusal of a file that filc does not run yet
 abbrev pub not_built : Refusal
@@ -52,7 +38,7 @@ line_of WriteFault = []
 line_of Usage = codes "filc: usage: run, threads, check or code FILE, or demo N\n"
 line_of ReadFault = codes "filc: read fault\n"
 line_of NoMemory = codes "filc: no memory\n"
-line_of (Refused refusal) = codes "filc: refused: " ++ at_line (kind_text refusal.kind) refusal.line
+line_of (Refused refusal) = codes "filc: refused: " ++ at_line (refusal_text refusal.kind) refusal.line
 line_of InputLimit = codes "filc: input too long\n"
 line_of (Trapped reason line) = codes "filc: trap: " ++ at_line (text_of reason) line
 line_of Deadlock = codes "filc: deadlock\n"

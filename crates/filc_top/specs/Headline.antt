@@ -1,13 +1,16 @@
--- The headline: what a call of `filc` does.
+-- The headline: what a call of `filc` does, whatever its words, its file and its devices are.
 --
--- A call has a cause and an output. The cause is how it ends but for the writing: what the words, the file and the
--- run make it. Then the output goes to standard output and the cause's line to standard error.
+-- The output and the ending of a run are those of ONE LEGAL HISTORY of the file's program: each of its events is
+-- one that C's text asks for, in its order, with an answer that the abstract machine allows. Every beginning of
+-- a legal history is legal too, so the statement says which one it is: the history of the instructions that
+-- were carried out, one for each turn, of the code that the compiler gives, which plays the program. What
+-- bounds it is the number of turns: without an end all of them were made, and the ending is Spent.
 --
--- A run of a program is a legal history: each of its events is one that C's text asks for, in its order, with
--- the answer that the abstract machine allows. It is the history of the instructions that were carried out,
--- one for each turn, of the code that the compiler gives, which plays the program.
-use Rattle.std.specs.Prelude.{◌≡◌, ◌⊎◌, ℕ, ◌+◌, ◌<◌, List, [], length, take, Option, Some, None}
-use Rattle.filc_io.specs.Outside.{appended, file_named}
+-- A call has a cause and an output. The cause is how it ends but for the writing: what the words, the file and
+-- the run make it. Then the output goes to standard output, and the cause's line to standard error.
+use Rattle.std.specs.Prelude.{◌≡◌, ◌⊎◌, ℕ, ◌+◌, List, [], Option, Some, None}
+use Rattle.filc_io.specs.Counts.{HasRisen}
+use Rattle.filc_io.specs.Outside.{FilesState, SinkState, Takes, file_named}
 use Rattle.c_tree.specs.Plain.{PlainProgram}
 use Rattle.form_reader.specs.Form.{HasForm}
 use Rattle.filc_code.specs.Plain.{PlainCode}
@@ -17,24 +20,49 @@ use Rattle.tree_play.specs.Legal.{IsLegalHistory, bytes_of, finish_of}
 use Rattle.code_gen.specs.Code.{program_code}
 use Rattle.code_gen.specs.Correct.{Plays}
 use Rattle.single_thread.specs.Alone.{history_of_run, jumps_of_run, ending_of_run}
-use Rattle.filc_top.specs.Commands.{IsRun}
+use Rattle.filc_top.specs.Commands.{IsRun, IsNoCommand}
 use Rattle.filc_top.specs.Endings.{line_of, not_built}
+use Rattle.filc_top.specs.Writing.{FailsWithin}
 use Rattle.filc_top.specs.declared.ending.Ending.{Ending}
 use Rattle.filc_top.specs.declared.ending.Ending.TheVariants as ending
 
--- files by their names, where they are told
-abbrev pub Contents : Type 0
-Contents = Option (List (List ℕ × List ℕ))
+-- ---- the devices
+
+-- standard output and standard error at one moment
+pub record Streams : Type 0 where
+  pub out : SinkState
+  pub err : SinkState
+
+abbrev pub streams : SinkState → SinkState → Streams
+streams out err = record { out = out; err = err }
+
+-- the devices that a call works on, at one moment
+pub record World : Type 0 where
+  pub files : FilesState
+  pub streams : Streams
+
+abbrev pub world : FilesState → SinkState → SinkState → World
+world files out err = record { files = files; streams = streams out err }
+
+-- ---- the file
 
 -- these are the bytes of the file of this name, as far as the files are told
-abbrev pub IsFile : Contents → List ℕ → List ℕ → Type 0
+abbrev pub IsFile : Option (List (List ℕ × List ℕ)) → List ℕ → List ℕ → Type 0
 IsFile None name bytes = Unit {0}
 IsFile (Some files) name bytes = file_named name files ≡ Some bytes
 
 -- the files are told, and none has the name
-abbrev pub HasNoFile : Contents → List ℕ → Type 0
+abbrev pub HasNoFile : Option (List (List ℕ × List ℕ)) → List ℕ → Type 0
 HasNoFile None name = ⊥
 HasNoFile (Some files) name = file_named name files ≡ None
+
+-- the words run this file, which holds these bytes as far as it is told, for so many turns
+pub record RunsFile (words : List (List ℕ)) (files : FilesState) (file : List ℕ) (turns : ℕ) : Type 0 where
+  pub name : List ℕ
+  pub words_are : IsRun words name turns
+  pub file_is : IsFile files.contents name file
+
+-- ---- the run
 
 -- how a call ends whose program ended so, or did not in its turns
 abbrev pub ending_of : Option Finish → Ending
@@ -53,31 +81,79 @@ pub record IsRunOf (program : PlainProgram) (turns : ℕ) (cause : Ending) (outp
   -- without an end, all these turns were made and the code goes on
   pub turns_made : finish_of (history_of_run default_limits turns code) ≡ None → ending_of_run default_limits turns code ≡ Cut
 
+-- ---- why a call ends
+
+-- the file was not read: the files failed, or none has the name
+pub record HasNotRead (words : List (List ℕ)) (old new : FilesState) : Type 0 where
+  pub name : List ℕ
+  pub turns : ℕ
+  pub words_are : IsRun words name turns
+  pub why : HasRisen old.faults new.faults ⊎ HasNoFile old.contents name
+
+-- the file is not of the form
+pub record HasNoForm (words : List (List ℕ)) (files : FilesState) : Type 0 where
+  pub file : List ℕ
+  pub turns : ℕ
+  pub file_is : RunsFile words files file turns
+  pub no_form : (program : PlainProgram) → HasForm file program → ⊥
+
+-- the file is of the form, and so of this program alone, whose run puts out these bytes and ends so
+pub record HasRun (words : List (List ℕ)) (files : FilesState) (cause : Ending) (output : List ℕ) : Type 0 where
+  pub file : List ℕ
+  pub turns : ℕ
+  pub program : PlainProgram
+  pub file_is : RunsFile words files file turns
+  pub form : HasForm file program
+  pub alone : (other : PlainProgram) → HasForm file other → program ≡ other
+  pub run : IsRunOf program turns cause output
+
+-- the words run a file
+pub record HasCommand (words : List (List ℕ)) : Type 0 where
+  pub name : List ℕ
+  pub turns : ℕ
+  pub words_are : IsRun words name turns
+
+-- this is the cause, and nothing was put out
+pub record IsSilent (wanted cause : Ending) (output : List ℕ) : Type 0 where
+  pub cause_is : cause ≡ wanted
+  pub output_is : output ≡ []
+
 -- why a call ends, and what its program put out
-pub data IsCause (words : List (List ℕ)) (contents : Contents) (HasFailed : Type 0) (cause : Ending) (output : List ℕ) : Type 0 where
-  -- the words are no command
-  usage : ((name : List ℕ) (turns : ℕ) → IsRun words name turns → ⊥) → cause ≡ ending.Usage → output ≡ [] → IsCause words contents HasFailed cause output
-  -- the files failed, or none has the name
-  unread : (name : List ℕ) (turns : ℕ) → IsRun words name turns → HasFailed ⊎ HasNoFile contents name → cause ≡ ending.ReadFault → output ≡ [] → IsCause words contents HasFailed cause output
-  -- the file has not the form
-  refused : (name file : List ℕ) (turns : ℕ) → IsRun words name turns → IsFile contents name file → ((program : PlainProgram) → HasForm file program → ⊥) → cause ≡ ending.Refused not_built → output ≡ [] → IsCause words contents HasFailed cause output
+pub data IsCause (words : List (List ℕ)) (old new : FilesState) (cause : Ending) (output : List ℕ) : Type 0 where
+  -- the words are no command, and the files stay as they are
+  usage :
+      IsNoCommand words → new ≡ old → IsSilent ending.Usage cause output → IsCause words old new cause output
+  -- the file was not read
+  unread :
+      HasNotRead words old new → IsSilent ending.ReadFault cause output → IsCause words old new cause output
+  -- the file is not of the form
+  refused :
+      HasNoForm words old → IsSilent (ending.Refused not_built) cause output → IsCause words old new cause output
   -- its program was run
-  ran : (name file : List ℕ) (turns : ℕ) (program : PlainProgram) → IsRun words name turns → IsFile contents name file → HasForm file program → IsRunOf program turns cause output → IsCause words contents HasFailed cause output
+  ran : HasRun words old cause output → IsCause words old new cause output
   -- there was no memory for it, before the first turn
-  no_memory : (name : List ℕ) (turns : ℕ) → IsRun words name turns → cause ≡ ending.NoMemory → output ≡ [] → IsCause words contents HasFailed cause output
+  no_memory : HasCommand words → IsSilent ending.NoMemory cause output → IsCause words old new cause output
+
+-- ---- what a call writes and answers
 
 -- how the output and the line of a cause are written, and what the call answers then
-pub data IsWritten (cause : Ending) (output : List ℕ) (result : Ending) (out_old out_new err_old err_new : Option (List ℕ)) (OutFailed ErrFailed : Type 0) : Type 0 where
+pub data IsWritten (cause : Ending) (output : List ℕ) (old new : Streams) (result : Ending) : Type 0 where
   -- both whole
-  whole : result ≡ cause → out_new ≡ appended out_old output → err_new ≡ appended err_old (line_of cause) → IsWritten cause output result out_old out_new err_old err_new OutFailed ErrFailed
-  -- standard output failed when it had taken only some bytes, and nothing more is written
-  out_failed : (count : ℕ) → count < length output → result ≡ ending.WriteFault → out_new ≡ appended out_old (take count output) → err_new ≡ err_old → OutFailed → IsWritten cause output result out_old out_new err_old err_new OutFailed ErrFailed
+  whole :
+      Takes old.out new.out output → Takes old.err new.err (line_of cause) → result ≡ cause →
+      IsWritten cause output old new result
+  -- standard output failed, and nothing more is written
+  out_failed :
+      FailsWithin old.out new.out output → new.err ≡ old.err → result ≡ ending.WriteFault →
+      IsWritten cause output old new result
   -- standard error failed
-  err_failed : (count : ℕ) → count < length (line_of cause) → result ≡ ending.WriteFault → out_new ≡ appended out_old output → err_new ≡ appended err_old (take count (line_of cause)) → ErrFailed → IsWritten cause output result out_old out_new err_old err_new OutFailed ErrFailed
+  err_failed :
+      Takes old.out new.out output → FailsWithin old.err new.err (line_of cause) → result ≡ ending.WriteFault →
+      IsWritten cause output old new result
 
--- what a call does
-pub record Outcome (words : List (List ℕ)) (contents : Contents) (FilesFailed : Type 0) (result : Ending) (out_old out_new err_old err_new : Option (List ℕ)) (OutFailed ErrFailed : Type 0) : Type 0 where
+-- what a call with these words makes of the devices, and what it answers
+pub record IsOutcome (words : List (List ℕ)) (old new : World) (result : Ending) : Type 0 where
   pub cause : Ending
   pub output : List ℕ
-  pub caused : IsCause words contents FilesFailed cause output
-  pub written : IsWritten cause output result out_old out_new err_old err_new OutFailed ErrFailed
+  pub caused : IsCause words old.files new.files cause output
+  pub written : IsWritten cause output old.streams new.streams result

@@ -1,23 +1,117 @@
-//! The call: from words to an ending.
+//! The call, step by step: the words, the file, the front end, the run, and the writing.
 
-ghost use Rattle.std.specs.Prelude.{◌≡◌, ◌⊎◌, ℕ, List, [], map, IfOk, OnErr};
-ghost use Rattle.filc_io.specs.Counts.{HasRisen};
+ghost use Rattle.std.specs.Prelude.{◌≡◌, ℕ, List, [], map, IfOk, IfErr};
 ghost use Rattle.single_thread.specs.Turns.{finish_of_end};
-ghost use Rattle.filc_top.specs.Clauses.{IsOfRun, IsAnswer, HasRun, HasNoForm, HasNotRead, IsLineAlone, IsNoCommand};
-ghost use Rattle.filc_top.specs.Endings.{not_built};
-ghost use Rattle.filc_top.specs.Headline.{ending_of, IsCause, IsRunOf, IsWritten, Outcome};
-ghost use Rattle.filc_top.specs.declared.ending.Refusal.{Refusal};
+ghost use Rattle.filc_top.specs.Clauses.{SaysEnding};
+ghost use Rattle.filc_top.specs.Commands.{IsNoCommand};
+ghost use Rattle.filc_top.specs.Headline.{world, streams, ending_of, IsSilent, IsCause, IsRunOf, IsWritten, IsOutcome};
+ghost use Rattle.filc_top.specs.Steps.{HasRead, EndsReading, IsProgramOf, EndsFrontEnd};
 
 use crate::command::command_of;
 use crate::ending::{Ending, NOT_BUILT};
-use crate::lines::tell;
+use crate::lines::write_line;
 use c_tree::Program;
 use code_gen::compile;
 use code_thread::CodeThread;
 use filc_io::{FileFault, Files, Sink, Source, write_all_of};
 use form_reader::{ReadFault, read};
 use single_thread::{MOST_BYTES, RunEnd, run, runs_are_legal, runs_are_unfinished};
-use std::alloc::{AllocError, Global};
+use std::alloc::Global;
+
+/// Carries out the words that stand after the program's name. The input is not read yet.
+pub fn filc<'a, F: Files, I: Source, O: Sink, E: Sink>(
+    alloc: Global,
+    words: &'a [&'a str],
+    files: &mut F,
+    input: &mut I,
+    out: &mut O,
+    err: &mut E,
+) -> Ending
+    ensures outcome { IsOutcome (map (λ word. word.now) words.now)
+        (world (F.state files.old) (O.state out.old) (E.state err.old))
+        (world (F.state files.new) (O.state out.new) (E.state err.new)) result }
+    ensures endings { SaysEnding (map (λ word. word.now) words.now)
+        (world (F.state files.old) (O.state out.old) (E.state err.old))
+        (world (F.state files.new) (O.state out.new) (E.state err.new)) result }
+    ensures no_file { IsNoCommand (map (λ word. word.now) words.now) → files.new ≡ files.old }
+    ensures contents { (F.state files.new).contents ≡ (F.state files.old).contents }
+    ensures input { input.new ≡ input.old }
+{
+    let mut output = Vec::new(alloc);
+    let cause = cause_of(alloc, words, files, &mut output);
+    write_outcome(out, err, cause, &output)
+}
+
+/// How the call ends but for the writing. What the program puts out goes into `output`.
+fn cause_of<F: Files>(alloc: Global, words: &[&str], files: &mut F, output: &mut Vec<u8>) -> Ending
+    requires { output.old.items ≡ [] }
+    ensures caused { IsCause (map (λ word. word.now) words.now)
+        (F.state files.old) (F.state files.new) result output.new.items }
+    ensures no_file { IsNoCommand (map (λ word. word.now) words.now) → files.new ≡ files.old }
+    ensures contents { (F.state files.new).contents ≡ (F.state files.old).contents }
+{
+    let Some(command) = command_of(words) else {
+        return Ending::Usage;
+    };
+    let file = match front_of_file(alloc, files, command.name) {
+        Ok(file) => file,
+        Err(cause) => return cause,
+    };
+    let program = match program_of(alloc, &file) {
+        Ok(program) => program,
+        Err(cause) => return cause,
+    };
+    match run_of(alloc, &program, command.turns, output) {
+        Ok(ending) => ending,
+        Err(cause) => cause,
+    }
+}
+
+/// Reads the file of this name, or as much of it as may be read.
+fn front_of_file<F: Files>(alloc: Global, files: &mut F, name: &str) -> Result<Vec<u8>, Ending>
+    ensures read { IfOk result (λ front. HasRead (F.state files.old) name.now front.items) }
+    ensures ended { IfErr result (EndsReading (F.state files.old) (F.state files.new) name.now) }
+    ensures contents { (F.state files.new).contents ≡ (F.state files.old).contents }
+{
+    match files.read_file(alloc, name) {
+        Ok(front) => Ok(front),
+        Err(FileFault::Failed) => Err(Ending::ReadFault),
+        Err(FileFault::Missing) => Err(Ending::ReadFault),
+        Err(FileFault::NoMemory) => Err(Ending::NoMemory),
+    }
+}
+
+/// The front end: the program that the file is.
+fn program_of(alloc: Global, file: &[u8]) -> Result<Program, Ending>
+    ensures found { IfOk result (IsProgramOf file.now) }
+    ensures ended { IfErr result (EndsFrontEnd file.now) }
+{
+    match read(alloc, file) {
+        Ok(program) => Ok(program),
+        Err(ReadFault::NotForm) => Err(Ending::Refused(NOT_BUILT)),
+        Err(ReadFault::NoMemory) => Err(Ending::NoMemory),
+    }
+}
+
+/// Compiles a program and runs it. All memory is taken before the first turn.
+fn run_of(
+    alloc: Global,
+    program: &Program,
+    turns: u32,
+    output: &mut Vec<u8>,
+) -> Result<Ending, Ending>
+    requires { output.old.items ≡ [] }
+    ensures ran { IfOk result (λ ending. IsRunOf program.now turns ending output.new.items) }
+    ensures ended { IfErr result (λ cause. IsSilent Ending.NoMemory cause output.new.items) }
+{
+    let code = compile(alloc, program)?;
+    let mut thread = CodeThread::new(alloc)?;
+    output.try_reserve(MOST_BYTES)?;
+    runs_are_legal();
+    runs_are_unfinished();
+    let end = run(&code, u64::from(turns), &mut thread, output);
+    Ok(ending_of(end))
+}
 
 /// The ending of a run.
 fn ending_of(end: RunEnd) -> Ending
@@ -30,102 +124,18 @@ fn ending_of(end: RunEnd) -> Ending
     }
 }
 
-/// Compiles a program and runs it. All memory is taken before the first turn.
-fn run_of(
-    alloc: Global,
-    program: &Program,
-    turns: u32,
-    output: &mut Vec<u8>,
-) -> Result<Ending, AllocError>
-    requires { output.old.items ≡ [] }
-    ensures ran { IfOk result (λ ending. IsRunOf program.now turns ending output.new.items) }
-    ensures none { OnErr result (output.new.items ≡ []) }
-{
-    let code = compile(alloc, program)?;
-    let mut thread = CodeThread::new(alloc)?;
-    output.try_reserve(MOST_BYTES)?;
-    runs_are_legal();
-    runs_are_unfinished();
-    let end = run(&code, u64::from(turns), &mut thread, output);
-    Ok(ending_of(end))
-}
-
-/// Carries out the words up to the writing: how the call ends, and what the program put out.
-fn cause_of<F: Files>(alloc: Global, words: &[&str], files: &mut F, output: &mut Vec<u8>) -> Ending
-    requires { output.old.items ≡ [] }
-    ensures caused { IsCause (map (λ word. word.now) words.now) (F.contents files.old) (HasRisen (F.faults files.old) (F.faults files.new)) result output.new.items }
-    ensures contents { F.contents files.new ≡ F.contents files.old }
-{
-    let Some(command) = command_of(words) else {
-        return Ending::Usage;
-    };
-    let file = match files.read_file(alloc, command.name) {
-        Ok(file) => file,
-        Err(FileFault::Failed) => return Ending::ReadFault,
-        Err(FileFault::Missing) => return Ending::ReadFault,
-        Err(FileFault::NoMemory) => return Ending::NoMemory,
-    };
-    let program = match read(alloc, &file) {
-        Ok(program) => program,
-        Err(ReadFault::NotForm) => return Ending::Refused(NOT_BUILT),
-        Err(ReadFault::NoMemory) => return Ending::NoMemory,
-    };
-    match run_of(alloc, &program, command.turns, output) {
-        Ok(ending) => ending,
-        Err(_) => Ending::NoMemory,
-    }
-}
-
-/// Writes the output, and then the line of the ending.
-fn written<O: Sink, E: Sink>(out: &mut O, err: &mut E, cause: Ending, output: &[u8]) -> Ending
-    ensures { IsWritten cause output.now result (O.taken out.old) (O.taken out.new) (E.taken err.old) (E.taken err.new) (HasRisen (O.faults out.old) (O.faults out.new)) (HasRisen (E.faults err.old) (E.faults err.new)) }
+/// Writes the output, and then the line of the cause.
+fn write_outcome<O: Sink, E: Sink>(out: &mut O, err: &mut E, cause: Ending, output: &[u8]) -> Ending
+    ensures { IsWritten cause output.now
+        (streams (O.state out.old) (E.state err.old))
+        (streams (O.state out.new) (E.state err.new)) result }
 {
     match write_all_of(out, output) {
         Ok(()) => {}
         Err(_) => return Ending::WriteFault,
     }
-    match tell(err, &cause) {
+    match write_line(err, &cause) {
         Ok(()) => cause,
         Err(_) => Ending::WriteFault,
     }
-}
-
-/// Carries out the words, and writes what came of them.
-fn carried_out<F: Files, O: Sink, E: Sink>(
-    alloc: Global,
-    words: &[&str],
-    files: &mut F,
-    out: &mut O,
-    err: &mut E,
-) -> Ending
-    ensures outcome { Outcome (map (λ word. word.now) words.now) (F.contents files.old) (HasRisen (F.faults files.old) (F.faults files.new)) result (O.taken out.old) (O.taken out.new) (E.taken err.old) (E.taken err.new) (HasRisen (O.faults out.old) (O.faults out.new)) (HasRisen (E.faults err.old) (E.faults err.new)) }
-    ensures contents { F.contents files.new ≡ F.contents files.old }
-{
-    let mut output = Vec::new(alloc);
-    let cause = cause_of(alloc, words, files, &mut output);
-    written(out, err, cause, &output)
-}
-
-/// Carries out the words that stand behind the program's name. The input is not read yet.
-pub fn filc<'a, F: Files, I: Source, O: Sink, E: Sink>(
-    alloc: Global,
-    words: &'a [&'a str],
-    files: &mut F,
-    input: &mut I,
-    out: &mut O,
-    err: &mut E,
-) -> Ending
-    ensures outcome { Outcome (map (λ word. word.now) words.now) (F.contents files.old) (HasRisen (F.faults files.old) (F.faults files.new)) result (O.taken out.old) (O.taken out.new) (E.taken err.old) (E.taken err.new) (HasRisen (O.faults out.old) (O.faults out.new)) (HasRisen (E.faults err.old) (E.faults err.new)) }
-    ensures ran { IsOfRun result → HasRun (map (λ word. word.now) words.now) (F.contents files.old) result (O.taken out.old) (O.taken out.new) (E.taken err.old) (E.taken err.new) }
-    ensures refused { (refusal : Refusal) → result ≡ Ending.Refused refusal → (refusal ≡ not_built) × HasNoForm (map (λ word. word.now) words.now) (F.contents files.old) }
-    ensures usage { result ≡ Ending.Usage → IsNoCommand (map (λ word. word.now) words.now) }
-    ensures no_command { IsNoCommand (map (λ word. word.now) words.now) → (result ≡ Ending.Usage) ⊎ (result ≡ Ending.WriteFault) }
-    ensures read_fault { result ≡ Ending.ReadFault → HasNotRead (map (λ word. word.now) words.now) (F.contents files.old) (HasRisen (F.faults files.old) (F.faults files.new)) }
-    ensures write_fault { result ≡ Ending.WriteFault → HasRisen (O.faults out.old) (O.faults out.new) ⊎ HasRisen (E.faults err.old) (E.faults err.new) }
-    ensures line_alone { (IsOfRun result → ⊥) → (result ≡ Ending.WriteFault → ⊥) → IsLineAlone result (O.taken out.old) (O.taken out.new) (E.taken err.old) (E.taken err.new) }
-    ensures answer { IsAnswer result }
-    ensures contents { F.contents files.new ≡ F.contents files.old }
-    ensures input { input.new ≡ input.old }
-{
-    carried_out(alloc, words, files, out, err)
 }

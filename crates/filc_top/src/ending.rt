@@ -1,9 +1,10 @@
 //! How a call ends: the endings with their statuses, and the line that each writes to standard error.
 
-ghost use Rattle.std.specs.Prelude.{◌≡◌, ◌++◌, List, length};
-ghost use Rattle.filc_top.specs.Endings.{status_of, kind_text};
+ghost use Rattle.std.specs.Prelude.{◌≡◌};
+ghost use Rattle.filc_top.specs.Endings.{status_of};
 
-use filc_num::Reason;
+use filc_num::{Reason, Refusal, RefusalKind};
+use std::alloc::AllocError;
 
 /// How a call of `filc` ended.
 #[derive(Clone, Copy, Debug, PartialEq, Eq)]
@@ -32,38 +33,14 @@ pub enum Ending {
     NoMemory,
 }
 
-/// Why a file is refused, and the line where.
-#[derive(Clone, Copy, Debug, PartialEq, Eq)]
-pub struct Refusal {
-    pub kind: RefusalKind,
-    pub line: u32,
-}
+impl From<AllocError> for Ending {
+    ghost use Rattle.filc_top.specs.declared.ending.Ending.TheVariants.{NoMemory};
 
-/// Why a file is refused, in the order in which the reasons count.
-#[derive(Clone, Copy, Debug, PartialEq, Eq)]
-pub enum RefusalKind {
-    /// A byte that begins no token.
-    Bad,
-    /// A comment, character or text without its end.
-    Unclosed,
-    /// A number, character or text that has no value.
-    Literal,
-    /// More bytes than a file may have.
-    TooLong,
-    /// A directive that is none.
-    Directive,
-    /// A header that is not there.
-    Header,
-    /// A conditional group without its other half.
-    Unbalanced,
-    /// More tokens than a file may expand to.
-    Expanded,
-    /// No tree is spelled so.
-    Syntax,
-    /// Brackets, prefix operators or statements nest too deep.
-    Deep,
-    /// A rule of the language, by its number. Rule 0 says that filc does not run such a file yet.
-    Rule(u8),
+    ghost from_gives = { λ _ ending. ending ≡ NoMemory };
+
+    fn from(_error: AllocError) -> Ending {
+        Ending::NoMemory
+    }
 }
 
 /// The refusal of a file that filc does not run yet.
@@ -71,27 +48,6 @@ pub const NOT_BUILT: Refusal = Refusal {
     kind: RefusalKind::Rule(0),
     line: 1,
 };
-
-impl RefusalKind {
-    /// The text of a refusal, as it stands in its line.
-    pub fn text(self) -> &'static str
-        ensures { result.now ≡ kind_text self }
-    {
-        match self {
-            RefusalKind::Bad => "bad character",
-            RefusalKind::Unclosed => "unclosed",
-            RefusalKind::Literal => "bad literal",
-            RefusalKind::TooLong => "file too long",
-            RefusalKind::Directive => "bad directive",
-            RefusalKind::Header => "unknown header",
-            RefusalKind::Unbalanced => "unbalanced conditional",
-            RefusalKind::Expanded => "too many tokens",
-            RefusalKind::Syntax => "syntax",
-            RefusalKind::Deep => "too deep",
-            RefusalKind::Rule(_) => "not built",
-        }
-    }
-}
 
 /// The status with which the program ends.
 pub fn status_of(ending: &Ending) -> u8

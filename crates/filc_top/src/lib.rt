@@ -9,5 +9,6 @@ mod ending;
 mod lines;
 
 pub use call::filc;
-pub use ending::{Ending, Refusal, RefusalKind, status_of};
-pub use lines::tell;
+pub use ending::{Ending, status_of};
+pub use filc_num::{Refusal, RefusalKind};
+pub use lines::write_line;

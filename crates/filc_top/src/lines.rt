@@ -1,53 +1,15 @@
 //! The line of an ending, on standard error. It takes no memory, so that want of memory has its line too.
 
-ghost use Rattle.std.specs.Prelude.{◌≡◌, ◌≤◌, ◌++◌, map, OnErr};
-ghost use Rattle.filc_io.specs.Counts.{HasRisen};
+ghost use Rattle.std.specs.Prelude.{◌≡◌, ◌≤◌, ◌++◌, map};
 ghost use Rattle.filc_top.specs.Endings.{at_line, line_of};
-ghost use Rattle.filc_top.specs.Telling.{joined, IsToldBy};
+ghost use Rattle.filc_top.specs.Writing.{Writes, concat};
 
 use crate::ending::Ending;
 use filc_io::{Failed, Sink, write_all_of};
 
-/// Writes pieces, one behind another.
-fn write_pieces<E: Sink>(err: &mut E, pieces: &[&[u8]]) -> Result<(), Failed>
-    ensures told { IsToldBy (joined (map (λ piece. piece.now) pieces.now)) result (E.taken err.old) (E.taken err.new) }
-    ensures failed { OnErr result (HasRisen (E.faults err.old) (E.faults err.new)) }
-    ensures never_falls { E.faults err.old ≤ E.faults err.new }
-{
-    for piece in pieces {
-        match write_all_of(err, piece) {
-            Ok(()) => {}
-            Err(_) => return Err(Failed),
-        }
-    }
-    Ok(())
-}
-
-/// Writes a line that names a line of the file.
-fn tell_at<E: Sink>(err: &mut E, start: &[u8], text: &[u8], line: u32) -> Result<(), Failed>
-    ensures told { IsToldBy (start.now ++ at_line text.now line) result (E.taken err.old) (E.taken err.new) }
-    ensures failed { OnErr result (HasRisen (E.faults err.old) (E.faults err.new)) }
-{
-    let mut buffer = itoa::Buffer::new();
-    let digits = buffer.format(line).as_bytes();
-    write_pieces(err, &[start, text, b" at line ", digits, b"\n"])
-}
-
-/// Writes a text.
-fn write_text<E: Sink>(err: &mut E, text: &[u8]) -> Result<(), Failed>
-    ensures told { IsToldBy text.now result (E.taken err.old) (E.taken err.new) }
-    ensures failed { OnErr result (HasRisen (E.faults err.old) (E.faults err.new)) }
-{
-    match write_all_of(err, text) {
-        Ok(()) => Ok(()),
-        Err(_) => Err(Failed),
-    }
-}
-
 /// Writes the line of an ending.
-pub fn tell<E: Sink>(err: &mut E, ending: &Ending) -> Result<(), Failed>
-    ensures told { IsToldBy (line_of ending.now) result (E.taken err.old) (E.taken err.new) }
-    ensures failed { OnErr result (HasRisen (E.faults err.old) (E.faults err.new)) }
+pub fn write_line<E: Sink>(err: &mut E, ending: &Ending) -> Result<(), Failed>
+    ensures { Writes (E.state err.old) (E.state err.new) (line_of ending.now) result }
 {
     match ending {
         Ending::Exited(_) | Ending::Listed | Ending::WriteFault => write_text(err, b""),
@@ -62,10 +24,44 @@ pub fn tell<E: Sink>(err: &mut E, ending: &Ending) -> Result<(), Failed>
         Ending::Spent => write_text(err, b"filc: turns spent\n"),
         Ending::Refused(refusal) => {
             let text = refusal.kind.text().as_bytes();
-            tell_at(err, b"filc: refused: ", text, refusal.line)
+            write_at_line(err, b"filc: refused: ", text, refusal.line)
         }
         Ending::Trapped(reason, line) => {
-            tell_at(err, b"filc: trap: ", reason.text().as_bytes(), *line)
+            write_at_line(err, b"filc: trap: ", reason.text().as_bytes(), *line)
         }
+    }
+}
+
+/// Writes a line that names a line of the file.
+fn write_at_line<E: Sink>(err: &mut E, start: &[u8], text: &[u8], line: u32) -> Result<(), Failed>
+    ensures { Writes (E.state err.old) (E.state err.new)
+        (start.now ++ at_line text.now line) result }
+{
+    let mut buffer = itoa::Buffer::new();
+    let digits = buffer.format(line).as_bytes();
+    write_pieces(err, &[start, text, b" at line ", digits, b"\n"])
+}
+
+/// Writes pieces, one after another.
+fn write_pieces<E: Sink>(err: &mut E, pieces: &[&[u8]]) -> Result<(), Failed>
+    ensures { Writes (E.state err.old) (E.state err.new)
+        (concat (map (λ piece. piece.now) pieces.now)) result }
+{
+    for piece in pieces {
+        match write_all_of(err, piece) {
+            Ok(()) => {}
+            Err(_) => return Err(Failed),
+        }
+    }
+    Ok(())
+}
+
+/// Writes a text.
+fn write_text<E: Sink>(err: &mut E, text: &[u8]) -> Result<(), Failed>
+    ensures { Writes (E.state err.old) (E.state err.new) text.now result }
+{
+    match write_all_of(err, text) {
+        Ok(()) => Ok(()),
+        Err(_) => Err(Failed),
     }
 }

@@ -13,6 +13,6 @@ loop-count-preserved g c =
       part = omega (arith, c.in-Ok.ensures.at_most, length-drop count bytes);
       taken = c.in-Ok.ensures.front
           ∙ ap (λ before. appended before (take taken (take (length bytes - count) (drop count bytes)))) c.loop-count.invariant.taken
-          ∙ appended-offered (g.S.Sink.taken c.args.sink.now) bytes count taken;
+          ∙ appended-offered (g.S.Sink.state c.args.sink.now).taken bytes count taken;
       never_falls = omega (arith, c.loop-count.invariant.never_falls, c.write.ensures.never_falls);
     }

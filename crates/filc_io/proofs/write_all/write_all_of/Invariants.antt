@@ -6,8 +6,8 @@ use Rattle.filc_io.proofs.write_all.write_all_of.Given as goal
 abbrev pub invariant-loop-count : goal.invariant-loop-count
 invariant-loop-count g l = record {
   part : l.count ≤ length l.bytes;
-  taken : g.S.Sink.taken l.sink ≡ appended (g.S.Sink.taken l.initial.sink) (take l.count l.bytes);
-  never_falls : g.S.Sink.faults l.initial.sink ≤ g.S.Sink.faults l.sink;
+  taken : (g.S.Sink.state l.sink).taken ≡ appended (g.S.Sink.state l.initial.sink).taken (take l.count l.bytes);
+  never_falls : (g.S.Sink.state l.initial.sink).faults ≤ (g.S.Sink.state l.sink).faults;
 }
 
 abbrev pub decreases-loop-count : goal.decreases-loop-count

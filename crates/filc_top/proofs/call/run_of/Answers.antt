@@ -1,3 +1,4 @@
+-- The run is one of the code that the compiler gives, and that code plays the program.
 use Rattle.std.proofs.Common.{ℕ, ap, subst, ◌∙◌}
 use Rattle.filc_code.specs.Plain.{PlainCode}
 use Rattle.filc_code.specs.WellFormed.{IsWellFormed}
