@@ -4,7 +4,7 @@ use Rattle.std.specs.declared.cmp.Ordering.{Ordering}
 use Rattle.std.specs.declared.cmp.Ordering.TheVariants.{Less, Equal, Greater}
 use Rattle.std.specs.Ordering.{nat_cmp, ordering_then}
 use Rattle.std.specs.Option.{option_cmp}
-use Rattle.c_types.specs.declared.kind.Kind.{Kind}
+use Rattle.filc_num.specs.declared.c_int_type.CIntType.{CIntType}
 use Rattle.c_types.specs.declared.ctype.Part.{Part}
 use Rattle.c_types.specs.declared.ctype.Array.{Array}
 use Rattle.c_types.specs.declared.ctype.Signature.{Signature}
@@ -17,7 +17,7 @@ use denote.Struct.Record.{values_one}
 use Rattle.c_types.specs.contracts.ctype.Extent as ExtentType
 use Rattle.c_types.specs.contracts.ctype.Part as PartType
 use Rattle.c_types.specs.contracts.ctype.Array as ArrayType
-use Rattle.c_types.specs.contracts.kind.KindOrd.TheImpl as KindOrder
+use Rattle.filc_num.specs.contracts.c_int_type.CIntTypeOrd.TheImpl as CIntTypeOrder
 use Rattle.c_types.specs.contracts.ctype.PartOrd.TheImpl as PartOrder
 use Rattle.c_types.specs.contracts.ctype.ArrayOrd.TheImpl as ArrayOrder
 use Rattle.c_types.specs.contracts.ctype.SignatureOrd.TheImpl as SignatureOrder
@@ -25,8 +25,8 @@ use Rattle.c_types.specs.contracts.ctype.ExtentOrd.TheImpl as ExtentOrder
 use Rattle.c_types.specs.contracts.ctype.CTypeOrd.TheImpl as TypeOrder
 use Rattle.c_types.specs.contracts.entry.EntryOrd.TheImpl as EntryOrder
 
-same_kind : (a b : Kind) → (KindOrder.ghosts).cmp a b ≡ Equal → a ≡ b
-same_kind a b h = search rules
+same_int_type : (a b : CIntType) → (CIntTypeOrder.ghosts).cmp a b ≡ Equal → a ≡ b
+same_int_type a b h = search rules
 
 same_part : (a b : Part) → (PartOrder.ghosts).cmp a b ≡ Equal → a ≡ b
 same_part a b h = search rules
@@ -66,7 +66,7 @@ same_signature a b h = search rules
 
 same_type : (a b : CType) → (TypeOrder.ghosts).cmp a b ≡ Equal → a ≡ b
 same_type Void Void h = refl
-same_type (Integer a) (Integer b) h = ap Integer (same_kind a b h)
+same_type (Integer a) (Integer b) h = ap Integer (same_int_type a b h)
 same_type (Enumeration a) (Enumeration b) h = ap Enumeration (same_number a b h)
 same_type (Pointer a) (Pointer b) h = ap Pointer (same_part a b h)
 same_type (ArrayOf a) (ArrayOf b) h = ap ArrayOf (same_array a b h)

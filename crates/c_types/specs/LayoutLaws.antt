@@ -15,10 +15,10 @@ room_align (Ok room) = room.align
 room_align (Err fault) = 1
 
 abbrev pub bytes_of_type : CType → ℕ
-bytes_of_type t = room_size (room_of t)
+bytes_of_type ty = room_size (room_of ty)
 
 abbrev pub alignment_of_type : CType → ℕ
-alignment_of_type t = room_align (room_of t)
+alignment_of_type ty = room_align (room_of ty)
 
 -- the sizes and the alignments of members
 abbrev pub sizes_of : List CType → List ℕ
@@ -33,12 +33,12 @@ pub record IsLeastMultiple (n a x : ℕ) : Type 0 where
   pub reaches : x ≤ n
   pub least : (k : ℕ) → k % a ≡ 0 → x ≤ k → n ≤ k
 
--- from the byte `from` on, each offset is the next multiple of its member's alignment behind the member
--- before it, and `behind` is the byte behind the last
+-- from the byte `from` on, each offset is the next multiple of its member's alignment after the member
+-- before it, and `end` is the byte after the last
 abbrev pub LieInOrder : ℕ → List CType → List ℕ → ℕ → Type 0
-LieInOrder from [] [] behind = from ≡ behind
-LieInOrder from (m ∷ ms) (offset ∷ offsets) behind = IsLeastMultiple offset (alignment_of_type m) from × LieInOrder (offset + bytes_of_type m) ms offsets behind
-LieInOrder from _ _ behind = ⊥
+LieInOrder from [] [] end = from ≡ end
+LieInOrder from (m ∷ ms) (offset ∷ offsets) end = IsLeastMultiple offset (alignment_of_type m) from × LieInOrder (offset + bytes_of_type m) ms offsets end
+LieInOrder from _ _ end = ⊥
 
 -- no member reaches into a later one
 abbrev pub LieApart : List ℕ → List ℕ → Type 0
@@ -46,10 +46,10 @@ LieApart sizes offsets = (i j : ℕ) → i < j → j < length sizes → slice_in
 
 -- the layout of a structure's members
 pub record IsStructureLayout (members : List CType) (l : Layout) : Type 0 where
-  pub behind : ℕ
-  pub in_order : LieInOrder 0 members l.offsets behind
+  pub end : ℕ
+  pub in_order : LieInOrder 0 members l.offsets end
   pub apart : LieApart (sizes_of members) l.offsets
-  pub least_size : IsLeastMultiple l.size l.align behind
+  pub least_size : IsLeastMultiple l.size l.align end
   pub greatest_align : l.align ≡ fold max 1 (alignments_of members)
 
 -- the layout of a union's members

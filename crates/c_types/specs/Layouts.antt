@@ -12,45 +12,45 @@ use Rattle.c_types.specs.declared.layouts.Form.{Form}
 use Rattle.c_types.specs.declared.layouts.Form.TheVariants.{Structure, Union}
 use Rattle.c_types.specs.Sizes.{Room, room_of}
 
--- where one member lies, the byte behind all members so far, and their greatest alignment
-pub record Step : Type 0 where
+-- where one member lies, the byte after all members so far, and their greatest alignment
+pub record PlainPlacement : Type 0 where
   pub offset : ℕ
-  pub behind : ℕ
+  pub end : ℕ
   pub align : ℕ
 
--- where a member lies, behind those before it or beside them
+-- where a member lies, after those before it or beside them
 abbrev pub offset_of : Form → ℕ → ℕ → ℕ
-offset_of Structure behind align = next_multiple_of behind align
-offset_of Union behind align = 0
+offset_of Structure end align = next_multiple_of end align
+offset_of Union end align = 0
 
--- a member is laid behind the byte `behind`, where those before it have the alignment `align`
-abbrev pub laid_at : ℕ → ℕ → ℕ → Room → Result Step TypeFault
-laid_at offset behind align room =
-    if nat_lt 131072 (offset + room.size) then Err TooLarge else Ok (record { offset = offset; behind = max behind (offset + room.size); align = max align room.align })
+-- a member is laid from the byte `end` on, where those before it have the alignment `align`
+abbrev pub placement_at : ℕ → ℕ → ℕ → Room → Result PlainPlacement TypeFault
+placement_at offset end align room =
+    if nat_lt 131072 (offset + room.size) then Err TooLarge else Ok (record { offset = offset; end = max end (offset + room.size); align = max align room.align })
 
-abbrev pub step_of : Form → ℕ → ℕ → Result Room TypeFault → Result Step TypeFault
-step_of form behind align (Err fault) = Err fault
-step_of form behind align (Ok room) = laid_at (offset_of form behind room.align) behind align room
+abbrev pub placement_of : Form → ℕ → ℕ → Result Room TypeFault → Result PlainPlacement TypeFault
+placement_of form end align (Err fault) = Err fault
+placement_of form end align (Ok room) = placement_at (offset_of form end room.align) end align room
 
--- where several members lie, the byte behind all of them, and their greatest alignment
-pub record Places : Type 0 where
+-- where several members lie, the byte after all of them, and their greatest alignment
+pub record Placements : Type 0 where
   pub offsets : List ℕ
-  pub behind : ℕ
+  pub end : ℕ
   pub align : ℕ
 
 -- after a step, the members that are left are laid
-abbrev pub go_on : Places → Result Step TypeFault → (Places → Result Places TypeFault) → Result Places TypeFault
-go_on so_far (Ok step) rest = rest (record { offsets = so_far.offsets ++ step.offset ∷ []; behind = step.behind; align = step.align })
+abbrev pub go_on : Placements → Result PlainPlacement TypeFault → (Placements → Result Placements TypeFault) → Result Placements TypeFault
+go_on so_far (Ok step) rest = rest (record { offsets = so_far.offsets ++ step.offset ∷ []; end = step.end; align = step.align })
 go_on so_far (Err fault) rest = Err fault
 
 -- the members after those that are laid so far
-unfoldable pub laid : Form → Places → List CType → Result Places TypeFault
-laid form so_far [] = Ok so_far
-laid form so_far (m ∷ ms) = go_on so_far (step_of form so_far.behind so_far.align (room_of m)) (λ next. laid form next ms)
+unfoldable pub placements_of : Form → Placements → List CType → Result Placements TypeFault
+placements_of form so_far [] = Ok so_far
+placements_of form so_far (m ∷ ms) = go_on so_far (placement_of form so_far.end so_far.align (room_of m)) (λ next. placements_of form next ms)
 
 -- before the first member
-abbrev pub nothing_laid : Places
-nothing_laid = record { offsets = []; behind = 0; align = 1 }
+abbrev pub no_placements : Placements
+no_placements = record { offsets = []; end = 0; align = 1 }
 
 -- the layout of all members: their places, with the size rounded up at the end
 pub record Layout : Type 0 where
@@ -58,9 +58,9 @@ pub record Layout : Type 0 where
   pub size : ℕ
   pub align : ℕ
 
-abbrev pub rounded : Result Places TypeFault → Result Layout TypeFault
-rounded (Ok p) = Ok (record { offsets = p.offsets; size = next_multiple_of p.behind p.align; align = p.align })
-rounded (Err fault) = Err fault
+abbrev pub layout_in : Result Placements TypeFault → Result Layout TypeFault
+layout_in (Ok p) = Ok (record { offsets = p.offsets; size = next_multiple_of p.end p.align; align = p.align })
+layout_in (Err fault) = Err fault
 
 unfoldable pub layout_of : Form → List CType → Result Layout TypeFault
-layout_of form members = rounded (laid form nothing_laid members)
+layout_of form members = layout_in (placements_of form no_placements members)

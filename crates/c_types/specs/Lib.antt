@@ -1,9 +1,8 @@
-pub mod Kinds
 pub mod Extents
 pub mod Sizes
 pub mod Layouts
 pub mod LayoutResults
-pub mod LayoutSteps
+pub mod Placements
 pub mod LayoutLaws
 pub mod Qualifiers
 pub mod Tables

@@ -10,7 +10,7 @@ use Rattle.c_types.specs.declared.ctype.Extent.{Extent}
 use Rattle.c_types.specs.declared.ctype.Array.{Array}
 use Rattle.c_types.specs.declared.ctype.TypeFault.{TypeFault}
 use Rattle.c_types.specs.declared.ctype.TypeFault.TheVariants.{Incomplete, TooLarge}
-use Rattle.c_types.specs.Kinds.{int_type_of}
+use Rattle.filc_num.specs.CIntTypes.{int_type_of}
 
 -- size and alignment of a complete type
 pub record Room : Type 0 where
@@ -31,7 +31,7 @@ room_of_array a = if nat_lt 131072 (a.count * a.extent.size) then Err TooLarge e
 
 abbrev pub room_of : CType → Result Room TypeFault
 room_of Void = Err Incomplete
-room_of (Integer kind) = Ok (scalar_room (bytes_of (int_type_of kind)))
+room_of (Integer named) = Ok (scalar_room (bytes_of (int_type_of named)))
 room_of (Enumeration tag) = Ok (scalar_room 4)
 room_of (Pointer to) = Ok (scalar_room 8)
 room_of (ArrayOf a) = room_of_array a
@@ -53,7 +53,7 @@ align_in (Ok r) = Ok r.align
 align_in (Err f) = Err f
 
 abbrev pub size_of_type : CType → Result ℕ TypeFault
-size_of_type t = size_in (room_of t)
+size_of_type ty = size_in (room_of ty)
 
 abbrev pub align_of_type : CType → Result ℕ TypeFault
-align_of_type t = align_in (room_of t)
+align_of_type ty = align_in (room_of ty)

@@ -21,7 +21,7 @@ is_derived_type (Enumeration tag) = false
 is_derived_type _ = true
 
 abbrev pub is_derived : Entry → Bool
-is_derived (OfType t) = is_derived_type t
+is_derived (OfType ty) = is_derived_type ty
 is_derived NoParameters = true
 is_derived (Parameters first others) = true
 
@@ -33,7 +33,7 @@ HasTag (Enumeration tag) n = tag ≡ n
 HasTag _ n = Unit {0}
 
 abbrev pub IsAt : Entry → ℕ → Type 0
-IsAt (OfType t) n = HasTag t n
+IsAt (OfType ty) n = HasTag ty n
 IsAt NoParameters n = Unit {0}
 IsAt (Parameters first others) n = Unit {0}
 

@@ -3,12 +3,12 @@
 ghost use Rattle.std.specs.Prelude.{◌≡◌, ◌<◌, ◌==◌};
 ghost use Rattle.c_types.specs.Extents.{IsExtent};
 
-use crate::kind::Kind;
-use crate::quals::Quals;
+use crate::qualifier_set::Qualifiers;
 use bitflags::Flags;
+use filc_num::CIntType;
 
 /// The greatest size of an object in bytes.
-pub const GREATEST_SIZE: u64 = 131_072;
+pub const MOST_OBJECT_BYTES: u64 = 131_072;
 
 /// The size and the alignment of a complete type.
 #[derive(Clone, Copy, Debug, PartialEq, Eq, PartialOrd, Ord)]
@@ -22,7 +22,7 @@ pub struct Extent {
 #[derive(Clone, Copy, Debug, PartialEq, Eq, PartialOrd, Ord)]
 pub struct Part {
     pub number: u32,
-    pub quals: Quals,
+    pub qualifiers: Qualifiers,
 }
 
 impl Part {
@@ -36,10 +36,10 @@ impl Part {
     }
 
     /// Whether this part has all qualifiers of another.
-    pub fn keeps_quals_of(self, other: Part) -> bool
-        ensures { result ≡ has_all self.quals other.quals }
+    pub fn keeps_qualifiers_of(self, other: Part) -> bool
+        ensures { result ≡ has_all self.qualifiers other.qualifiers }
     {
-        self.quals.contains(other.quals)
+        self.qualifiers.contains(other.qualifiers)
     }
 }
 
@@ -67,7 +67,7 @@ pub struct Signature {
 #[derive(Clone, Copy, Debug, PartialEq, Eq, PartialOrd, Ord)]
 pub enum CType {
     Void,
-    Integer(Kind),
+    Integer(CIntType),
     /// An enumeration, which is kept as an `int`.
     Enumeration(u32),
     /// A pointer to this part.

@@ -5,7 +5,7 @@ ghost use Rattle.c_types.specs.Extents.{IsExtent};
 
 use crate::ctype::Extent;
 
-/// Whether members lie one behind another or all at one place.
+/// Whether members lie one after another or all at one place.
 #[derive(Clone, Copy, Debug, PartialEq, Eq)]
 pub enum Form {
     Structure,

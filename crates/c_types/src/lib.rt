@@ -6,22 +6,20 @@
 
 mod ctype;
 mod entry;
-mod kind;
 pub mod laws;
 mod layouts;
 mod members;
-mod quals;
+mod qualifier_set;
 mod sizes;
 mod table;
 
-pub use ctype::{Array, CType, Extent, GREATEST_SIZE, Part, Signature, TypeFault};
+pub use ctype::{Array, CType, Extent, MOST_OBJECT_BYTES, Part, Signature, TypeFault};
 pub use entry::{Entry, Tag};
-pub use kind::Kind;
 pub use layouts::{Form, Layout, LayoutFault};
 pub use members::{layout, union_layout};
-pub use quals::Quals;
+pub use qualifier_set::Qualifiers;
 pub use sizes::{align_of, extent_of, size_of};
-pub use table::{NoMemory, Types};
+pub use table::Types;
 
 #[cfg(test)]
 mod tests;

@@ -3,11 +3,11 @@
 ghost use Rattle.std.specs.Prelude.{◌≡◌, ◌<◌, ◌≤◌, length, IfOk, MatchResult, IsTrue};
 ghost use Rattle.c_types.specs.Extents.{is_align};
 ghost use Rattle.c_types.specs.Sizes.{room_of};
-ghost use Rattle.c_types.specs.Layouts.{layout_of, step_of};
+ghost use Rattle.c_types.specs.Layouts.{layout_of, placement_of};
 ghost use Rattle.c_types.specs.LayoutResults.{IsLaidOut, HasFault};
-ghost use Rattle.c_types.specs.LayoutSteps.{step_in};
+ghost use Rattle.c_types.specs.Placements.{placement_in};
 
-use crate::ctype::{CType, GREATEST_SIZE, TypeFault};
+use crate::ctype::{CType, MOST_OBJECT_BYTES, TypeFault};
 use crate::layouts::{Form, Layout, LayoutFault};
 use crate::sizes::extent_of;
 use std::alloc::Global;
@@ -30,34 +30,34 @@ pub fn union_layout(alloc: Global, members: &[CType]) -> Result<Layout, LayoutFa
     lay_out(alloc, Form::Union, members)
 }
 
-/// One member's place, the byte behind all members so far, and their greatest alignment.
+/// Where a member lies, the byte after all members so far, and their greatest alignment.
 #[derive(Clone, Copy)]
-struct Place {
+struct Placement {
     offset: u64,
-    behind: u64,
+    end: u64,
     align: u64,
 }
 
-/// Finds the place of a member behind others.
-fn place_member(form: Form, member: &CType, behind: u64, align: u64) -> Result<Place, TypeFault>
-    requires within { behind ≤ 131072 }
+/// Finds where a member lies after others.
+fn place_member(form: Form, member: &CType, end: u64, align: u64) -> Result<Placement, TypeFault>
+    requires within { end ≤ 131072 }
     requires aligned { IsTrue (is_align align) }
-    ensures step { step_in result ≡ step_of form behind align (room_of member.now) }
-    ensures within { IfOk result (λ p. (0 < p.behind) × (p.behind ≤ 131072)) }
+    ensures placement { placement_in result ≡ placement_of form end align (room_of member.now) }
+    ensures within { IfOk result (λ p. (0 < p.end) × (p.end ≤ 131072)) }
     ensures aligned { IfOk result (λ p. IsTrue (is_align p.align)) }
 {
     let room = extent_of(member)?;
     let offset = match form {
-        Form::Structure => behind.next_multiple_of(room.align),
+        Form::Structure => end.next_multiple_of(room.align),
         Form::Union => 0,
     };
-    let end = offset + room.size;
-    if end > GREATEST_SIZE {
+    let member_end = offset + room.size;
+    if member_end > MOST_OBJECT_BYTES {
         return Err(TypeFault::TooLarge);
     }
-    Ok(Place {
+    Ok(Placement {
         offset,
-        behind: behind.max(end),
+        end: end.max(member_end),
         align: align.max(room.align),
     })
 }
@@ -68,15 +68,15 @@ fn lay_out(alloc: Global, form: Form, members: &[CType]) -> Result<Layout, Layou
         (HasFault (layout_of form members.now)) }
 {
     let mut offsets = Vec::new(alloc);
-    let mut behind = 0;
+    let mut end = 0;
     let mut align = 1;
     for member in members {
-        match place_member(form, member, behind, align) {
+        match place_member(form, member, end, align) {
             Ok(next) => {
                 if offsets.push(next.offset).is_err() {
                     return Err(LayoutFault::NoMemory);
                 }
-                behind = next.behind;
+                end = next.end;
                 align = next.align;
             }
             Err(TypeFault::Incomplete) => return Err(LayoutFault::Incomplete),
@@ -85,7 +85,7 @@ fn lay_out(alloc: Global, form: Form, members: &[CType]) -> Result<Layout, Layou
     }
     Ok(Layout {
         offsets,
-        size: behind.next_multiple_of(align),
+        size: end.next_multiple_of(align),
         align,
     })
 }

@@ -13,9 +13,6 @@ use std::alloc::{AllocError, Global};
 use std::collections::BTreeMap;
 use std::marker::Model;
 
-/// Want of memory.
-pub type NoMemory = AllocError;
-
 /// The types of a file, and the lists of their functions' parameters. Contracts see the list of entries.
 #[derive(Drop)]
 pub struct Types {
@@ -36,7 +33,7 @@ impl Model for Types {
 }
 
 impl Types {
-    ghost use Rattle.std.specs.Prelude.{◌≡◌, ℕ, ◌<◌, [], ◌++◌, ◌∷◌, ◌==◌, length, slice_get, slice_set, IfOk, OnErr, IsTrue};
+    ghost use Rattle.std.specs.Prelude.{◌≡◌, ◌⊎◌, ℕ, [], ◌++◌, ◌∷◌, ◌==◌, length, slice_get, slice_set, IfOk, OnErr, IsTrue};
     ghost use Rattle.c_types.specs.declared.entry.Entry.{Entry};
     ghost use Rattle.c_types.specs.declared.entry.Entry.TheVariants.{OfType};
     ghost use Rattle.c_types.specs.Tables.{is_derived, tag_type};
@@ -77,10 +74,10 @@ impl Types {
 
     /// The number of a type that is made from others, or of a list of parameters: always the same one. It is
     /// put in where it isn't there yet.
-    pub fn number_of(&mut self, entry: Entry) -> Result<u32, NoMemory>
+    pub fn number_of(&mut self, entry: Entry) -> Result<u32, AllocError>
         requires { IsTrue (is_derived entry) }
         ensures number { IfOk result (λ n. slice_get self.new n ≡ Some entry) }
-        ensures kept { (n : ℕ) → n < length self.old → slice_get self.new n ≡ slice_get self.old n }
+        ensures table { (self.new ≡ self.old) ⊎ (self.new ≡ self.old ++ entry ∷ []) }
         ensures err { OnErr result (self.new ≡ self.old) }
     {
         if let Some(number) = self.numbers.get(&entry).copied() {
@@ -101,7 +98,7 @@ impl Types {
 
     /// A new structure, union or enumeration without contents, by its number: a type of its own
     /// (C11 6.7.2.3p5).
-    pub fn declare(&mut self, tag: Tag) -> Result<u32, NoMemory>
+    pub fn declare(&mut self, tag: Tag) -> Result<u32, AllocError>
         ensures number { IfOk result (λ n. n ≡ length self.old) }
         ensures entry { IfOk result (λ n. self.new ≡ self.old ++ OfType (tag_type tag n None) ∷ []) }
         ensures err { OnErr result (self.new ≡ self.old) }

@@ -4,18 +4,19 @@ ghost use Rattle.std.specs.Prelude.{◌<◌};
 
 use super::*;
 use bitflags::Flags;
+use filc_num::CIntType;
 use std::test::Fail;
 
-const CHAR: CType = CType::Integer(Kind::Char);
+const CHAR: CType = CType::Integer(CIntType::Char);
 
-const SHORT: CType = CType::Integer(Kind::Short);
+const SHORT: CType = CType::Integer(CIntType::Short);
 
-const INT: CType = CType::Integer(Kind::Int);
+const INT: CType = CType::Integer(CIntType::Int);
 
 fn pointer() -> CType {
     CType::Pointer(Part {
         number: 0,
-        quals: Quals::CONST,
+        qualifiers: Qualifiers::CONST,
     })
 }
 
@@ -25,7 +26,7 @@ fn chars(count: u64) -> CType
 {
     let element = Part {
         number: 0,
-        quals: Quals::empty(),
+        qualifiers: Qualifiers::empty(),
     };
     CType::ArrayOf(Array {
         element,
@@ -37,11 +38,11 @@ fn chars(count: u64) -> CType
 #[test]
 fn sizes_of_types(rt: HostRuntime) {
     let rows = [
-        ("_Bool", CType::Integer(Kind::Bool), Ok(1)),
+        ("_Bool", CType::Integer(CIntType::Bool), Ok(1)),
         ("short", SHORT, Ok(2)),
         (
             "unsigned long long",
-            CType::Integer(Kind::UnsignedLongLong),
+            CType::Integer(CIntType::UnsignedLongLong),
             Ok(8),
         ),
         ("an enumeration is an int", CType::Enumeration(0), Ok(4)),
@@ -113,15 +114,15 @@ fn the_first_bad_member_decides(rt: HostRuntime) {
 fn parts_are_compared_with_and_without_qualifiers(rt: HostRuntime) {
     let plain = Part {
         number: 7,
-        quals: Quals::empty(),
+        qualifiers: Qualifiers::empty(),
     };
     let constant = Part {
         number: 7,
-        quals: Quals::CONST | Quals::ATOMIC,
+        qualifiers: Qualifiers::CONST | Qualifiers::ATOMIC,
     };
     assert!(rt; plain.is_same_unqualified(constant));
-    assert!(rt; constant.keeps_quals_of(plain));
-    assert!(rt; !plain.keeps_quals_of(constant));
+    assert!(rt; constant.keeps_qualifiers_of(plain));
+    assert!(rt; !plain.keeps_qualifiers_of(constant));
 }
 
 #[test]
@@ -131,7 +132,7 @@ fn each_type_has_one_number(rt: HostRuntime) -> Result<(), Fail> {
     let int = types.number_of(Entry::OfType(INT))?;
     let to_int = Entry::OfType(CType::Pointer(Part {
         number: int,
-        quals: Quals::empty(),
+        qualifiers: Qualifiers::empty(),
     }));
     let pointer = types.number_of(to_int)?;
     assert!(rt; pointer != int);

@@ -1,4 +1,4 @@
-use Rattle.std.proofs.Common.{◌≡◌, ℕ, ◌++◌, ◌∷◌, [], List, length, None, Some, sym, ap, ◌∙◌, subst, rules, arith}
+use Rattle.std.proofs.Common.{◌≡◌, inr, ℕ, ◌++◌, ◌∷◌, [], List, length, None, Some, sym, ap, ◌∙◌, subst, rules, arith}
 use Rattle.std.specs.Prelude.{slice_get}
 use Rattle.std.proofs.lemmas.Grind.{common_steps}
 use Rattle.std.specs.BTreeMap.{get, Updates, IsUnchanged}
@@ -37,8 +37,7 @@ returns-clause-number c =
     ap (λ (xs : List Entry). slice_get xs c.in-Ok.number) pushed ∙ ap (λ (n : ℕ). slice_get (c.self.inside.entries.items ++ c.args.entry ∷ []) n) number
     ∙ slice_get-push_at c.self.inside.entries.items c.args.entry
 
-pub returns-clause-kept : goal.returns-clause-kept
-returns-clause-kept c = λ n h.
+pub returns-clause-table : goal.returns-clause-table
+returns-clause-table c =
     let pushed : c.push.new.self.items ≡ c.self.inside.entries.items ++ c.args.entry ∷ [] = grind (arith, common_steps, c.push.ensures.items) in
-    let view : c.self.inside.entries.items ≡ c.args.self.now = c.self.view_is in
-    ap (λ (xs : List Entry). slice_get xs n) pushed ∙ slice_get-push_before c.self.inside.entries.items c.args.entry n (omega (arith, ap length view)) ∙ ap (λ (xs : List Entry). slice_get xs n) view
+    inr (pushed ∙ ap (λ (xs : List Entry). xs ++ c.args.entry ∷ []) c.self.view_is)

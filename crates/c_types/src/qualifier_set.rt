@@ -6,10 +6,10 @@ use bitflags::{Flag, Flags, bitflag_items};
 
 /// The qualifiers of a type: a set of `const`, `volatile`, `restrict` and `_Atomic`.
 #[derive(Clone, Copy, Debug, PartialEq, Eq, PartialOrd, Ord)]
-pub struct Quals(u8);
+pub struct Qualifiers(u8);
 
 bitflag_items! {
-    impl Quals: u8 {
+    impl Qualifiers: u8 {
         const CONST = 1;
         const VOLATILE = 2;
         const RESTRICT = 4;
@@ -17,7 +17,7 @@ bitflag_items! {
     }
 }
 
-impl Flags for Quals {
+impl Flags for Qualifiers {
     type Bits = u8;
 
     ghost exact = { ⊤ };
@@ -27,15 +27,15 @@ impl Flags for Quals {
 
     ghost set_of = { λ q. q.0 };
 
-    fn flags<'a>() -> &'a [Flag<Quals>] {
-        Quals::FLAGS
+    fn flags<'a>() -> &'a [Flag<Qualifiers>] {
+        Qualifiers::FLAGS
     }
 
     fn bits(&self) -> u8 {
         self.0
     }
 
-    fn from_bits_retain(bits: u8) -> Quals {
-        Quals(bits)
+    fn from_bits_retain(bits: u8) -> Qualifiers {
+        Qualifiers(bits)
     }
 }
