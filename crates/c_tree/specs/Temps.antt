@@ -3,6 +3,7 @@
 -- An operand waits in a register of its own while the operands to its right are computed. So an
 -- operator needs, for its operand number i counted from 0, i registers more than that operand itself.
 use Rattle.std.specs.Prelude.{ℕ, ◌+◌, max}
+use Rattle.filc_num.specs.declared.registers.TheConstants.{SPARE_REGISTERS}
 use Rattle.c_tree.specs.declared.expr.Expr.{Expr, Number, Local, Negate', Chain', end_of-Expr, more_of-Expr, Row_of-Link, end_of-Link, more_of-Link}
 use Rattle.c_tree.specs.declared.stmt.Stmt.{Stmt, Empty, Assign, While', Block', PutChar, Return, Row_of-Stmt, end_of-Stmt, more_of-Stmt}
 use Rattle.c_tree.specs.declared.program.FunctionDef.{FunctionDef}
@@ -21,7 +22,7 @@ abbrev mutual
   links_temps (more_of-Link op ty operand links) = max (1 + temps_of operand) (links_temps links)
 
 abbrev mutual
-  -- the greatest temporaries of a statement's expressions; the place of an assignment and the function of a
+  -- the greatest temporaries of a statement's expressions; the local of an assignment and the function of a
   -- call are operand 0
   pub stmt_temps : Stmt → ℕ
   stmt_temps Empty = 0
@@ -35,6 +36,6 @@ abbrev mutual
   stmts_temps end_of-Stmt = 0
   stmts_temps (more_of-Stmt s rest) = max (stmt_temps s) (stmts_temps rest)
 
--- a function's values: its locals, its greatest temporaries, and 8
+-- a function's values: its locals, its greatest temporaries, and the spare registers
 abbrev pub values_of : FunctionDef → ℕ
-values_of f = f.locals + stmt_temps f.body + 8
+values_of f = f.locals + stmt_temps f.body + SPARE_REGISTERS

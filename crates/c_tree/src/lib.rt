@@ -18,4 +18,4 @@ mod temps;
 pub use expr::{Expr, Link};
 pub use program::{FunctionDef, Program};
 pub use stmt::{LocalDef, Stmt};
-pub use temps::{MOST, expr_temps, statement_temps};
+pub use temps::{expr_temps, statement_temps};

@@ -77,7 +77,7 @@ fn sizes_of_types(rt: HostRuntime) {
 }
 
 #[test]
-fn a_structure_pads_between_and_behind(rt: HostRuntime) -> Result<(), Fail> {
+fn a_structure_pads_between_and_after(rt: HostRuntime) -> Result<(), Fail> {
     let three = layout(rt.alloc(), &[CHAR, INT, pointer()])?;
     assert_eq!(rt; three.offsets.as_slice(), [0, 4, 8].as_slice());
     assert_eq!(rt; (three.size, three.align), (16, 8));

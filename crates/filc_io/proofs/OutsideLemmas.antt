@@ -5,27 +5,27 @@ use Rattle.std.specs.Option.{option_map}
 use Rattle.std.specs.Str.{bytes_eq}
 use Rattle.std.proofs.lemmas.List.{take_all, length-take}
 use Rattle.std.proofs.Math.Seq.{take-add}
-use Rattle.filc_io.specs.Outside.{appended, file_named}
+use Rattle.filc_io.specs.Outside.{append, file_named}
 
 -- to append nothing changes nothing
-pub appended-nothing : (taken : Option (List ℕ)) → appended taken [] ≡ taken
-appended-nothing None = refl
-appended-nothing (Some bytes) = ap Some (append-nil bytes)
+pub append-nothing : (taken : Option (List ℕ)) → append taken [] ≡ taken
+append-nothing None = refl
+append-nothing (Some bytes) = ap Some (append-nil bytes)
 
 -- two parts, one after the other
-pub appended-appended : (taken : Option (List ℕ)) (xs ys : List ℕ) → appended (appended taken xs) ys ≡ appended taken (xs ++ ys)
-appended-appended None xs ys = refl
-appended-appended (Some bytes) xs ys = ap Some (append_assoc bytes xs ys)
+pub append-append : (taken : Option (List ℕ)) (xs ys : List ℕ) → append (append taken xs) ys ≡ append taken (xs ++ ys)
+append-append None xs ys = refl
+append-append (Some bytes) xs ys = ap Some (append_assoc bytes xs ys)
 
 -- a text's first m bytes, and then n more of it
-pub appended-more : (taken : Option (List ℕ)) (bytes : List ℕ) (m n : ℕ) → appended (appended taken (take m bytes)) (take n (drop m bytes)) ≡ appended taken (take (m + n) bytes)
-appended-more taken bytes m n = appended-appended taken (take m bytes) (take n (drop m bytes)) ∙ ap (appended taken) (sym (take-add m n bytes))
+pub append-more : (taken : Option (List ℕ)) (bytes : List ℕ) (m n : ℕ) → append (append taken (take m bytes)) (take n (drop m bytes)) ≡ append taken (take (m + n) bytes)
+append-more taken bytes m n = append-append taken (take m bytes) (take n (drop m bytes)) ∙ ap (append taken) (sym (take-add m n bytes))
 
 -- the same, where the rest of the text was offered as a slice of its own
-pub appended-offered : (taken : Option (List ℕ)) (bytes : List ℕ) (m n : ℕ) → appended (appended taken (take m bytes)) (take n (take (length bytes - m) (drop m bytes))) ≡ appended taken (take (m + n) bytes)
-appended-offered taken bytes m n =
+pub append-offered : (taken : Option (List ℕ)) (bytes : List ℕ) (m n : ℕ) → append (append taken (take m bytes)) (take n (take (length bytes - m) (drop m bytes))) ≡ append taken (take (m + n) bytes)
+append-offered taken bytes m n =
     let short : length (drop m bytes) ≤ length bytes - m = omega (arith, length-drop m bytes) in
-    ap (λ rest. appended (appended taken (take m bytes)) (take n rest)) (take_all _ (drop m bytes) short) ∙ appended-more taken bytes m n
+    ap (λ rest. append (append taken (take m bytes)) (take n rest)) (take_all _ (drop m bytes) short) ∙ append-more taken bytes m n
 
 -- the front of the file that was found is the front of the file of that name
 pub file_named-found : (name : List ℕ) (files : List (List ℕ × List ℕ)) (file : List ℕ × List ℕ) (front bytes : List ℕ) (n : ℕ) → Some file ≡ find (λ f. bytes_eq f.0 name) files → bytes ≡ file.1 → front ≡ take n bytes → IsSomeAnd (file_named name files) (λ b. front ≡ take n b)

@@ -27,12 +27,12 @@ abbrev pub file_named : List ℕ → List (List ℕ × List ℕ) → Option (Lis
 file_named name files = option_map (λ file. file.1) (find (λ file. bytes_eq file.0 name) files)
 
 -- what a sink holds once it took these bytes too
-abbrev pub appended : Option (List ℕ) → List ℕ → Option (List ℕ)
-appended taken bytes = option_map (λ before. before ++ bytes) taken
+abbrev pub append : Option (List ℕ) → List ℕ → Option (List ℕ)
+append taken bytes = option_map (λ before. before ++ bytes) taken
 
 -- a sink took these bytes
 abbrev pub Takes : SinkState → SinkState → List ℕ → Type 0
-Takes old new bytes = new.taken ≡ appended old.taken bytes
+Takes old new bytes = new.taken ≡ append old.taken bytes
 
 -- what a source has left once it gave its first n bytes
 abbrev pub without_front : ℕ → Option (List ℕ) → Option (List ℕ)

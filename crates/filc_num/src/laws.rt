@@ -21,10 +21,10 @@ pub fn conversions_in_a_row(v: u64, from: IntType, ty: IntType)
         → convert_of (convert_of v from) ty ≡ convert_of v ty }
     ensures back { IsValue from v → ty ≢ IntType.Bool → width_of from ≤ width_of ty
         → convert_of (convert_of v ty) from ≡ v }
-    ensures widened { IsValue from v → least_of ty ≤ℤ least_of from → greatest_of from ≤ℤ greatest_of ty
-        → convert_of v ty ≡ v }
-    ensures same_integer { IsValue from v → least_of ty ≤ℤ least_of from → greatest_of from ≤ℤ greatest_of ty
-        → value_of ty v ≡ value_of from v }
+    ensures widened { IsValue from v → least_of ty ≤ℤ least_of from
+        → greatest_of from ≤ℤ greatest_of ty → convert_of v ty ≡ v }
+    ensures same_integer { IsValue from v → least_of ty ≤ℤ least_of from
+        → greatest_of from ≤ℤ greatest_of ty → value_of ty v ≡ value_of from v }
 {}
 
 /// Each integer from the least to the greatest has one value, to which it is wrapped.

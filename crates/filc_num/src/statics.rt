@@ -32,7 +32,7 @@ pub struct StaticDef {
 
 impl StaticDef {
     /// An object of zeros.
-    pub fn zeroed(alloc: Global, bytes: u64, literal: bool) -> Result<StaticDef, AllocError>
+    pub fn zeros(alloc: Global, bytes: u64, literal: bool) -> Result<StaticDef, AllocError>
         ensures size { IfOk result (λ d. d.bytes ≡ bytes) }
         ensures kind { IfOk result (λ d. d.literal ≡ literal) }
         ensures words { IfOk result (λ d. d.words.items ≡ replicate (payload_words_of bytes) 0) }

@@ -285,7 +285,7 @@ fn a_refusal_is_printed_with_its_line(rt: HostRuntime) -> Result<(), Fail> {
 
 #[test]
 fn a_static_object_begins_as_zeros(rt: HostRuntime) -> Result<(), Fail> {
-    let object = StaticDef::zeroed(rt.alloc(), 9, false)?;
+    let object = StaticDef::zeros(rt.alloc(), 9, false)?;
     assert_eq!(rt; object.words.as_slice(), [0, 0].as_slice());
     let copy = object.clone()?;
     assert_eq!(rt; copy.halves.len(), 2);

@@ -2,7 +2,7 @@
 use Rattle.std.proofs.Common.{◌≡◌, ◌⊎◌, inl, inr, ℕ, List, [], refl, sym, ap, subst, ◌∙◌, arith, ◌≤◌}
 use Rattle.std.specs.Prelude.{Option, Some, None}
 use Rattle.filc_num.specs.declared.refusal.Refusal.{Refusal}
-use Rattle.filc_io.specs.Outside.{FilesState, Takes, appended}
+use Rattle.filc_io.specs.Outside.{FilesState, Takes, append}
 use Rattle.ideal_machine.specs.Memory.{Finish, Exited, Trapped, default_limits}
 use Rattle.tree_play.specs.Legal.{finish_of}
 use Rattle.single_thread.specs.Alone.{history_of_run}
@@ -55,7 +55,7 @@ ran_kind words files cause output why = ap kind why.run.cause_is ∙ run_kind (f
 
 -- to take nothing changes nothing
 takes_nothing : (output : List ℕ) (old new : Streams) → output ≡ [] → Takes old.out new.out output → Takes old.out new.out []
-takes_nothing output old new none is = is ∙ ap (λ (text : List ℕ). appended old.out.taken text) none
+takes_nothing output old new none is = is ∙ ap (λ (text : List ℕ). append old.out.taken text) none
 
 module _ (words : List (List ℕ)) (old new : World) (result : Ending) (o : IsOutcome words old new result) where
   abbrev Cause : Type 0
@@ -168,7 +168,7 @@ module _ (words : List (List ℕ)) (old new : World) (result : Ending) (o : IsOu
       four_kind = ap kind (sym written.0) ∙ of_run_kind result of_run
 
       line : Takes old.streams.err new.streams.err (line_of result)
-      line = written.2 ∙ ap (λ (e : Ending). appended old.streams.err.taken (line_of e)) (sym written.0)
+      line = written.2 ∙ ap (λ (e : Ending). append old.streams.err.taken (line_of e)) (sym written.0)
 
       by : Cause → HasRunWhole words old new result
       by (usage none stay silent) = absurd (omega (arith, four_kind, ap kind silent.cause_is))
@@ -186,7 +186,7 @@ module _ (words : List (List ℕ)) (old new : World) (result : Ending) (o : IsOu
   line_alone_is : (IsOfRun result → ⊥) → (result ≡ ending.WriteFault → ⊥) → IsPutOut [] old.streams new.streams result
   line_alone_is not_run no_fault = record {
     out = takes_nothing o.output old.streams new.streams (nothing o.caused) written.1;
-    err = written.2 ∙ ap (λ (e : Ending). appended old.streams.err.taken (line_of e)) (sym written.0);
+    err = written.2 ∙ ap (λ (e : Ending). append old.streams.err.taken (line_of e)) (sym written.0);
   }
     where
       written : AllWritten

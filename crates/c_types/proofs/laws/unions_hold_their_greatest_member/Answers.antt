@@ -1,3 +1,4 @@
+-- A union's members lie together.
 use Rattle.c_types.proofs.LayoutsHold.{union_layout_is}
 use Rattle.c_types.proofs.laws.unions_hold_their_greatest_member.Goals as goal
 

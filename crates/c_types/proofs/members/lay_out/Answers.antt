@@ -1,3 +1,4 @@
+-- What is laid out so far, and the members that are left, are the whole layout.
 use Rattle.std.proofs.Common.{◌≡◌, ◌++◌, ◌∷◌, [], Err, Result, sym, ap, ◌∙◌, arith}
 use Rattle.std.proofs.lemmas.Grind.{common_steps}
 use Rattle.c_types.specs.declared.ctype.TypeFault.{TypeFault}

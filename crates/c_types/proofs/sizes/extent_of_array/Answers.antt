@@ -1,3 +1,4 @@
+-- An array that is not too large has a size within the limit.
 use Rattle.std.proofs.Common.{arith}
 use Rattle.c_types.proofs.Multiples.{IsExtent-array}
 use Rattle.c_types.proofs.sizes.extent_of_array.Goals as goal

@@ -1,7 +1,7 @@
 -- What a write took goes on where the writes before it ended.
 use Rattle.std.proofs.Common.{◌-◌, arith, length, take, drop, ap, ◌∙◌, length-drop}
-use Rattle.filc_io.specs.Outside.{appended}
-use Rattle.filc_io.proofs.OutsideLemmas.{appended-offered}
+use Rattle.filc_io.specs.Outside.{append}
+use Rattle.filc_io.proofs.OutsideLemmas.{append-offered}
 use Rattle.filc_io.proofs.write_all.write_all_of.Goals as goal
 
 pub loop-count-preserved : goal.loop-count-preserved
@@ -12,7 +12,7 @@ loop-count-preserved g c =
     record {
       part = omega (arith, c.in-Ok.ensures.at_most, length-drop count bytes);
       taken = c.in-Ok.ensures.front
-          ∙ ap (λ before. appended before (take taken (take (length bytes - count) (drop count bytes)))) c.loop-count.invariant.taken
-          ∙ appended-offered (g.S.Sink.state c.args.sink.now).taken bytes count taken;
+          ∙ ap (λ before. append before (take taken (take (length bytes - count) (drop count bytes)))) c.loop-count.invariant.taken
+          ∙ append-offered (g.S.Sink.state c.args.sink.now).taken bytes count taken;
       never_falls = omega (arith, c.loop-count.invariant.never_falls, c.write.ensures.never_falls);
     }

@@ -1,3 +1,4 @@
+-- What a conversion gives is a value, congruent to what was converted, and the only such.
 use Rattle.std.proofs.Common.{sym, ◌∙◌}
 use Rattle.filc_num.proofs.Conversions.{IsValue-convert_of, convert_of-value, convert_of-congruent, same_value}
 use Rattle.filc_num.proofs.laws.conversion_gives_the_congruent_value.Goals as goal

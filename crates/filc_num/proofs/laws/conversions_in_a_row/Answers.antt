@@ -1,3 +1,4 @@
+-- Two conversions, one after the other.
 use Rattle.filc_num.proofs.Conversions.{convert_of-twice, convert_of-back, convert_of-value, IsValue-wider, value_of_wider}
 use Rattle.filc_num.proofs.laws.conversions_in_a_row.Goals as goal
 

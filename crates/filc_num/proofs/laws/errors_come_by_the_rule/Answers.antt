@@ -1,3 +1,4 @@
+-- When division and the shifts have no result.
 use Rattle.filc_num.proofs.Outcomes.{quotient_fails, remainder_fails, left_shift_fails, right_shift_fails}
 use Rattle.filc_num.proofs.laws.errors_come_by_the_rule.Goals as goal
 

@@ -1,3 +1,4 @@
+-- A value is read back from its low bytes.
 use Rattle.filc_num.proofs.Conversions.{convert_of-stored}
 use Rattle.filc_num.proofs.laws.low_bytes_tell_the_value.Goals as goal
 

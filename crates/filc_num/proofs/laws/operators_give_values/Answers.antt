@@ -1,3 +1,4 @@
+-- An operator gives a value, case by case.
 use Rattle.filc_num.proofs.Outcomes.{IsValue-binary_of, comparison_is_truth}
 use Rattle.filc_num.proofs.laws.operators_give_values.Goals as goal
 

@@ -1,3 +1,4 @@
+-- Values and the integers of the range, one for one.
 use Rattle.filc_num.specs.Integers.{bits_of}
 use Rattle.filc_num.proofs.Conversions.{IsValue-convert_of, value_of-wrap, value_of-injective}
 use Rattle.filc_num.proofs.laws.values_stand_for_the_integers_of_the_range.Goals as goal

@@ -1,3 +1,4 @@
+-- A shift to the left is a product with a power of two.
 use Rattle.std.proofs.Common.{sym, arith}
 use Rattle.filc_num.proofs.Residues.{product_with_power}
 use Rattle.filc_num.proofs.operation.left_shift_bits.Goals as goal

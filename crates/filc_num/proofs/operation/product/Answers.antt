@@ -1,3 +1,4 @@
+-- The bits of a product are those of the product of the integers.
 use Rattle.std.proofs.Common.{sym, ap, ◌∙◌, ℕ, arith}
 use Rattle.filc_num.specs.Integers.{convert_of}
 use Rattle.filc_num.proofs.Residues.{product_of_values}

@@ -1,3 +1,4 @@
+-- The bits of a sum are those of the sum of the integers.
 use Rattle.std.proofs.Common.{sym, ap, ◌∙◌, ℕ, arith}
 use Rattle.filc_num.specs.Integers.{convert_of}
 use Rattle.filc_num.proofs.Residues.{sum_of_values}

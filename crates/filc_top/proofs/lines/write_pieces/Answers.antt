@@ -1,11 +1,11 @@
 -- The pieces so far, and one more or its front, are the text so far.
 use Rattle.std.proofs.Common.{sym, arith, add-one}
-use Rattle.filc_top.proofs.Pieces.{appended-nothing, piece_taken, piece_cut}
+use Rattle.filc_top.proofs.Pieces.{append-nothing, piece_taken, piece_cut}
 use Rattle.filc_top.proofs.lines.write_pieces.Goals as goal
 
 pub loop-piece-init : goal.loop-piece-init
 loop-piece-init g c = record {
-  taken = sym (appended-nothing (g.E.Sink.state c.args.err.now).taken);
+  taken = sym (append-nothing (g.E.Sink.state c.args.err.now).taken);
   never_falls = omega arith;
 }
 

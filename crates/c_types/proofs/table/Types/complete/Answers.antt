@@ -1,3 +1,4 @@
+-- A type of its own gets its contents where it stands.
 use Rattle.std.proofs.Common.{◌≡◌, List, false, None, Some, sym, ap, ◌∙◌, subst}
 use Rattle.std.specs.Prelude.{slice_get}
 use Rattle.c_types.specs.declared.ctype.CType.{CType}

@@ -1,3 +1,4 @@
+-- A new type of its own goes to the end of the table.
 use Rattle.std.proofs.Common.{◌≡◌, ℕ, ◌++◌, ◌∷◌, [], List, false, length, None, sym, ap, ◌∙◌, subst, rules, arith}
 use Rattle.std.proofs.lemmas.Grind.{common_steps}
 use Rattle.c_types.specs.declared.ctype.CType.{CType}

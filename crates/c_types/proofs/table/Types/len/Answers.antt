@@ -1,3 +1,4 @@
+-- Each entry has one number.
 use Rattle.std.proofs.Common.{◌≡◌, ℕ, List, Some, subst}
 use Rattle.std.specs.Prelude.{slice_get}
 use Rattle.c_types.specs.declared.entry.Entry.{Entry}

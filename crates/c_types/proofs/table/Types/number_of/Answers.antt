@@ -1,3 +1,4 @@
+-- A derived type has its number already, or goes to the end of the table.
 use Rattle.std.proofs.Common.{◌≡◌, inr, ℕ, ◌++◌, ◌∷◌, [], List, length, None, Some, sym, ap, ◌∙◌, subst, rules, arith}
 use Rattle.std.specs.Prelude.{slice_get}
 use Rattle.std.proofs.lemmas.Grind.{common_steps}
