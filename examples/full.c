@@ -1,0 +1,5 @@
+int putchar(int c);
+int main(void) {
+    while (1)
+        putchar(46);
+}
