@@ -1,26 +1,30 @@
--- The transitions of the abstract machine: which answer an event may get, and what changes then. All else
--- stays.
+-- The transitions of the abstract machine: when an event may get an answer (`IsAllowed`), and what changes then
+-- (`effect_of`). All else stays.
 --
---     Begin          done, where the actor's slot is started with this function, address and half
+--     Spawn          the id of a free slot, which is started; or none
+--     Begin          done, where the actor's slot is started with this function, address and half; it is running
+--     End            done; the actor's slot is ended with the result
+--     Join           the result of the thread with this id, where it is ended, and its slot is free for the next;
+--                    none exactly where no slot is for that thread
 --     Out            done where the output has room, else OutputLimit
+--     Input          the next byte, or the end exactly where none is left
 --     Exit, Trap     done, where the program hasn't ended
 --
--- No other event is allowed yet.
-use Rattle.std.specs.Prelude.{◌≡◌, ◌⊎◌, ℕ, ◌<◌, ◌≤◌, List, [], ◌∷◌, ◌++◌, length, All, IfSome, IsSomeAnd, Option, Some, None, true, false, option_map, slice_get, slice_set}
+-- Every event but Begin needs that its actor's thread is running. No event on objects is allowed yet, nor the end of
+-- a cycle.
+use Rattle.std.specs.Prelude.{◌≡◌, ◌⊎◌, ℕ, ◌+◌, ◌/◌, ◌%◌, ◌<◌, ◌≤◌, List, [], ◌∷◌, ◌++◌, length, IsSomeAnd, Option, Some, None, true, option_map, slice_get, slice_set}
 use Rattle.filc_num.specs.declared.reason.Reason.TheVariants.{OutputLimit}
 use Rattle.ideal_machine.specs.declared.value.Half.{Half}
 use Rattle.ideal_machine.specs.declared.value.Half.TheVariants.{Freed, Object as ObjectHalf}
-use Rattle.ideal_machine.specs.declared.value.Kept.{Kept}
-use Rattle.ideal_machine.specs.declared.value.Kept.TheVariants.{Plain as KeptPlain, Pair as KeptPair}
-use Rattle.ideal_machine.specs.declared.value.Found.{Found}
-use Rattle.ideal_machine.specs.declared.value.Found.TheVariants.{Plain as FoundPlain, Pair as FoundPair}
-use Rattle.ideal_machine.specs.declared.event.Seen.{Seen}
-use Rattle.ideal_machine.specs.declared.event.Seen.TheVariants.{Any, Found as SeenFound}
+use Rattle.ideal_machine.specs.declared.finish.Finish.{Finish}
+use Rattle.ideal_machine.specs.declared.finish.Finish.TheVariants.{Exited, Trapped}
 use Rattle.ideal_machine.specs.declared.event.Event.{Event}
-use Rattle.ideal_machine.specs.declared.event.Event.TheVariants.{Check, GetInt, SetInt, RmwInt, CasInt, GetHalf, SetHalf, CasHalf, Void, Size, Name, Lock, Out, Spawn, Begin, Exit, Trap}
+use Rattle.ideal_machine.specs.declared.event.Event.TheVariants.{Out, Input, Spawn, Begin, End, Join, Exit, Trap}
 use Rattle.ideal_machine.specs.declared.event.Answer.{Answer}
-use Rattle.ideal_machine.specs.declared.event.Answer.TheVariants.{Refused, Done, Found as FoundAnswer, Opened, Made}
-use Rattle.ideal_machine.specs.Memory.{Slot, SlotState, Started, Running, Finish, Exited, Trapped, Memory, Limits}
+use Rattle.ideal_machine.specs.declared.event.Answer.TheVariants.{Refused, Done, Number, Absent, End as InputEnd}
+use Rattle.ideal_machine.specs.Memory.{Slot, SlotState, Free, Started, Running, Ended, Memory, World, id_of}
+
+-- ---- slots
 
 -- where an actor's thread is
 abbrev pub state_of : Memory → ℕ → Option SlotState
@@ -44,13 +48,57 @@ abbrev pub IsStarted : Memory → ℕ → ℕ → ℕ → Half → Type 0
 IsStarted memory actor function address shown =
     (half : Half) × (state_of memory actor ≡ Some (Started function address half)) × IsShown memory half shown
 
--- the memory with the actor's thread in this state
-abbrev pub with_slot : List Slot → ℕ → SlotState → Option Slot → List Slot
-with_slot slots actor state None = slots
-with_slot slots actor state (Some slot) = slice_set slots actor (record slot { state = state })
+-- the id is that of a free slot, for the thread that it has next
+abbrev pub IsFreeId : Memory → ℕ → Type 0
+IsFreeId memory id =
+    IsSomeAnd (slice_get memory.slots (id % 64)) (λ slot. (slot.state ≡ Free) × (id ≡ id_of (id % 64) slot.generation))
 
-abbrev pub with_state : Memory → ℕ → SlotState → Memory
-with_state memory actor state = record memory { slots = with_slot memory.slots actor state (slice_get memory.slots actor) }
+-- a slot is for the thread with this id
+abbrev pub HasThread : Memory → ℕ → Type 0
+HasThread memory id = IsSomeAnd (slice_get memory.slots (id % 64)) (λ slot. slot.generation ≡ id / 64)
+
+-- the thread with this id is ended with this result
+abbrev pub HasResult : Memory → ℕ → ℕ → Type 0
+HasResult memory id result = slice_get memory.slots (id % 64) ≡ Some (record { generation = id / 64; state = Ended result })
+
+-- ---- what is allowed
+
+-- the actor may make this event and get this answer
+abbrev pub IsAllowed : World → Memory → ℕ → Event → Answer → Type 0
+IsAllowed world memory actor (Spawn function address half) (Number id) = IsRunning memory actor × IsFreeId memory id
+IsAllowed world memory actor (Spawn function address half) Absent = IsRunning memory actor
+IsAllowed world memory actor (Begin function address half) Done = IsStarted memory actor function address half
+IsAllowed world memory actor (End result) Done = IsRunning memory actor
+IsAllowed world memory actor (Join id) (Number result) = IsRunning memory actor × HasResult memory id result
+IsAllowed world memory actor (Join id) Absent = IsRunning memory actor × (HasThread memory id → ⊥)
+IsAllowed world memory actor (Out byte) Done = IsRunning memory actor × (length memory.output < world.output)
+IsAllowed world memory actor (Out byte) (Refused OutputLimit) =
+    IsRunning memory actor × (world.output ≤ length memory.output)
+IsAllowed world memory actor Input (Number byte) =
+    IsRunning memory actor × (slice_get world.input memory.input_taken ≡ Some byte)
+IsAllowed world memory actor Input InputEnd = IsRunning memory actor × (length world.input ≤ memory.input_taken)
+IsAllowed world memory actor (Exit status) Done = IsRunning memory actor × (memory.finish ≡ None)
+IsAllowed world memory actor (Trap reason line) Done = IsRunning memory actor × (memory.finish ≡ None)
+-- every other event isn't there yet
+IsAllowed world memory actor event answer = ⊥
+
+-- ---- what changes
+
+-- the memory with one slot changed
+abbrev pub slots_with : List Slot → ℕ → (Slot → Slot) → Option Slot → List Slot
+slots_with slots n change None = slots
+slots_with slots n change (Some slot) = slice_set slots n (change slot)
+
+abbrev pub with_slot : Memory → ℕ → (Slot → Slot) → Memory
+with_slot memory n change = record memory { slots = slots_with memory.slots n change (slice_get memory.slots n) }
+
+-- a slot with its thread in this state
+abbrev pub in_state : SlotState → Slot → Slot
+in_state state slot = record slot { state = state }
+
+-- a slot that is free for the next thread
+abbrev pub next_generation : Slot → Slot
+next_generation slot = record { generation = slot.generation + 1; state = Free }
 
 -- the memory with one byte more put out
 abbrev pub with_byte : Memory → ℕ → Memory
@@ -60,66 +108,15 @@ with_byte memory byte = record memory { output = memory.output ++ byte ∷ [] }
 abbrev pub with_finish : Memory → Finish → Memory
 with_finish memory finish = record memory { finish = Some finish }
 
--- the actor may make this event and get this answer, and leaves the memory like this
-abbrev pub Allows : Limits → Memory → ℕ → Event → Answer → Memory → Type 0
-Allows limits memory actor (Begin function address half) Done after =
-    IsStarted memory actor function address half × (after ≡ with_state memory actor Running)
-Allows limits memory actor (Out byte) Done after =
-    IsRunning memory actor × (length memory.output < limits.output) × (after ≡ with_byte memory byte)
-Allows limits memory actor (Out byte) (Refused OutputLimit) after =
-    IsRunning memory actor × (limits.output ≤ length memory.output) × (after ≡ memory)
-Allows limits memory actor (Exit status) Done after =
-    IsRunning memory actor × (memory.finish ≡ None) × (after ≡ with_finish memory (Exited status))
-Allows limits memory actor (Trap reason line) Done after =
-    IsRunning memory actor × (memory.finish ≡ None) × (after ≡ with_finish memory (Trapped reason line))
--- every other event isn't there yet
-Allows limits memory actor event answer after = ⊥
-
--- ---- the address rule
-
--- the objects that a half names
-abbrev pub half_names : Half → List ℕ
-half_names (ObjectHalf n) = n ∷ []
-half_names half = []
-
-abbrev pub kept_names : Kept → List ℕ
-kept_names (KeptPlain half) = half_names half
-kept_names (KeptPair address half) = half_names half
-
-abbrev pub found_names : Found → List ℕ
-found_names (FoundPlain half) = half_names half
-found_names (FoundPair number) = []
-
-abbrev pub seen_names : Seen → List ℕ
-seen_names Any = []
-seen_names (SeenFound found) = found_names found
-
--- the objects that an event names
-abbrev pub event_names : Event → List ℕ
-event_names (Check half address width write) = half_names half
-event_names (GetInt access) = access.object ∷ []
-event_names (SetInt access value) = access.object ∷ []
-event_names (RmwInt access operation value) = access.object ∷ []
-event_names (CasInt access expected desired) = access.object ∷ []
-event_names (GetHalf object word) = object ∷ []
-event_names (SetHalf object word half) = object ∷ kept_names half
-event_names (CasHalf object word seen new) = object ∷ (seen_names seen ++ kept_names new)
-event_names (Void half address) = half_names half
-event_names (Size half address) = half_names half
-event_names (Name half address) = half_names half
-event_names (Lock object offset) = object ∷ []
-event_names (Spawn function address half) = half_names half
-event_names (Begin function address half) = half_names half
-event_names event = []
-
--- the objects that an answer names
-abbrev pub answer_names : Answer → List ℕ
-answer_names (FoundAnswer found) = found_names found
-answer_names (Opened address half) = half_names half
-answer_names (Made object address) = object ∷ []
-answer_names answer = []
-
--- no thread sees two objects at one address: what an event or its answer names isn't covered
-abbrev pub KeepsApart : Memory → Event → Answer → Type 0
-KeepsApart memory event answer =
-    All (λ n. IfSome (slice_get memory.objects n) (λ o. o.covered ≡ false)) (event_names event ++ answer_names answer)
+-- what an actor's event with this answer leaves
+abbrev pub effect_of : Memory → ℕ → Event → Answer → Memory
+effect_of memory actor (Spawn function address half) (Number id) =
+    with_slot memory (id % 64) (in_state (Started function address half))
+effect_of memory actor (Begin function address half) Done = with_slot memory actor (in_state Running)
+effect_of memory actor (End result) Done = with_slot memory actor (in_state (Ended result))
+effect_of memory actor (Join id) (Number result) = with_slot memory (id % 64) next_generation
+effect_of memory actor (Out byte) Done = with_byte memory byte
+effect_of memory actor Input (Number byte) = record memory { input_taken = memory.input_taken + 1 }
+effect_of memory actor (Exit status) Done = with_finish memory (Exited status)
+effect_of memory actor (Trap reason line) Done = with_finish memory (Trapped reason line)
+effect_of memory actor event answer = memory

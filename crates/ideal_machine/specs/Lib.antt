@@ -1,5 +1,9 @@
 pub mod Memory
 pub mod Allows
+pub mod Names
 pub mod Values
+pub mod Queries
 pub mod Play
+pub mod Phrases
+pub mod Reaches
 pub mod Worked

@@ -7,13 +7,14 @@
 //! allowed here.
 //!
 //! Read `specs/Memory.antt` first, then `specs/Allows.antt`. `specs/Play.antt` says what a thread
-//! is: something that asks, and goes on by the answer.
+//! is: something that asks, and goes on by the reply.
 #![tactic(auto)]
 
 mod event;
+mod finish;
+pub mod laws;
 mod value;
-mod worked;
 
 pub use event::{Access, Answer, Event, Operation, Seen};
+pub use finish::Finish;
 pub use value::{Found, Half, Kept, Value};
-pub use worked::{a_program_ends_once, main_begins_first, out_needs_its_begin};

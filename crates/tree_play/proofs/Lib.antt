@@ -1,1 +1,2 @@
 pub mod Far
+mod More

@@ -1,18 +1,18 @@
--- Legal histories: what a program may do, and what the outside sees of it.
+-- Legal histories: what a program may do.
 --
 -- A history is what happened, in the order in which it took effect: events with their answers, and who made
--- them. It is legal where each entry is allowed by the memory that those before it left, and each thread plays
+-- them. It is legal where each entry is allowed in the memory that those before it left, and each thread plays
 -- its C text on the answers that it got.
-use Rattle.std.specs.Prelude.{◌≡◌, ℕ, ◌==◌, List, [], ◌∷◌, ◌++◌, Option, Some, None, map, filter}
+use Rattle.std.specs.Prelude.{◌≡◌, ℕ, ◌==◌, List, [], ◌∷◌, Bool, true, false, map, filter, if◌then◌else◌}
 use Rattle.c_tree.specs.Plain.{PlainProgram}
-use Rattle.ideal_machine.specs.declared.value.Half.{Half}
 use Rattle.ideal_machine.specs.declared.event.Event.{Event}
-use Rattle.ideal_machine.specs.declared.event.Event.TheVariants.{Out, Begin, Exit, Trap}
+use Rattle.ideal_machine.specs.declared.event.Event.TheVariants.{Begin}
 use Rattle.ideal_machine.specs.declared.event.Answer.{Answer}
-use Rattle.ideal_machine.specs.declared.event.Answer.TheVariants.{Done}
-use Rattle.ideal_machine.specs.Memory.{Memory, Limits, first_memory, Finish, Exited, Trapped}
-use Rattle.ideal_machine.specs.Allows.{Allows, KeepsApart}
-use Rattle.ideal_machine.specs.Play.{log_of, Start}
+use Rattle.ideal_machine.specs.Memory.{Memory, World, first_memory, address_in, thread_id}
+use Rattle.ideal_machine.specs.Allows.{IsAllowed, effect_of}
+use Rattle.ideal_machine.specs.Names.{KeepsApart, IsShownAs}
+use Rattle.ideal_machine.specs.Play.{log_of}
+use Rattle.ideal_machine.specs.Phrases.{Start}
 use Rattle.tree_play.specs.TreePlay.{play}
 
 -- an event with its actor and its answer
@@ -24,72 +24,85 @@ pub record Entry : Type 0 where
 abbrev pub History : Type 0
 History = List Entry
 
--- each entry is allowed by the memory that the entries before it left, and names no covered object
-abbrev pub Runs : Limits → Memory → History → Memory → Type 0
-Runs limits memory [] after = memory ≡ after
-Runs limits memory (entry ∷ rest) after =
-    (between : Memory) × Allows limits memory entry.actor entry.event entry.answer between × KeepsApart memory entry.event entry.answer
-    × Runs limits between rest after
+-- ---- what is allowed
 
--- what one actor made
-abbrev pub entries_of : ℕ → History → History
-entries_of actor history = filter (λ (e : Entry). e.actor == actor) history
+-- the memory that an entry leaves
+abbrev pub memory_after : Memory → Entry → Memory
+memory_after memory entry = effect_of memory entry.actor entry.event entry.answer
 
-abbrev pub events_of : History → List Event
-events_of history = map (λ (e : Entry). e.event) history
+-- the memory that a history leaves
+abbrev pub last_memory : Memory → History → Memory
+last_memory memory [] = memory
+last_memory memory (entry ∷ rest) = last_memory (memory_after memory entry) rest
 
-abbrev pub answers_of : History → List Answer
-answers_of history = map (λ (e : Entry). e.answer) history
+-- each entry is allowed in the memory that the entries before it left, and names no covered object
+abbrev pub AreAllowed : World → Memory → History → Type 0
+AreAllowed world memory [] = Unit {0}
+AreAllowed world memory (entry ∷ rest) =
+    IsAllowed world memory entry.actor entry.event entry.answer × KeepsApart memory entry.event entry.answer
+    × AreAllowed world (memory_after memory entry) rest
 
--- these entries are what a thread so begun makes on their answers, where each loop makes at most n turns
-abbrev pub ArePlayed : ℕ → PlainProgram → Start → History → Type 0
-ArePlayed n program start made =
-    (log_of (play n program start (answers_of made))).events ≡ events_of made
+-- ---- what is played
 
--- a slot's entries are those of its threads, one thread after another, each from its Begin on
-pub data AreThreads (n : ℕ) (program : PlainProgram) : History → Type 0 where
-  none : AreThreads n program []
-  thread : (actor id function address : ℕ) (half : Half) (made rest : History) →
-      ArePlayed n program (record { id = id; function = function; argument = record { number = address; half = half } }) made →
-      AreThreads n program rest →
-      AreThreads n program ((record { actor = actor; event = Begin function address half; answer = Done } ∷ made) ++ rest)
+-- an entry, and the memory in which it was made
+pub record Moment : Type 0 where
+  pub memory : Memory
+  pub entry : Entry
 
--- a history that a program may have. The first memory has one started slot, that of `main`, and ends at most
--- once; and no play goes on after its Exit, Trap or End. So the first Begin is that of `main` in slot 0, and
--- whoever ended the program makes no event after that.
-pub record IsLegalHistory (history : History) (program : PlainProgram) (limits : Limits) (n : ℕ) : Type 0 where
-  pub allowed : (after : Memory) × Runs limits (first_memory limits program.main) history after
-  pub played : (actor : ℕ) → AreThreads n program (entries_of actor history)
+-- the moments of a history, from a memory on
+abbrev pub moments : Memory → History → List Moment
+moments memory [] = []
+moments memory (entry ∷ rest) = record { memory = memory; entry = entry } ∷ moments (memory_after memory entry) rest
 
--- ---- what the outside sees
+abbrev pub is_begin : Event → Bool
+is_begin (Begin function address half) = true
+is_begin event = false
 
--- the bytes of an entry: that of an Out that was done
-abbrev pub bytes_of_event : Event → Answer → List ℕ
-bytes_of_event (Out byte) Done = byte ∷ []
-bytes_of_event event answer = []
+-- the moments up to the next thread's beginning
+abbrev pub until_begin : List Moment → List Moment
+until_begin [] = []
+until_begin (moment ∷ rest) = if is_begin moment.entry.event then [] else moment ∷ until_begin rest
 
--- the end of the program by an entry
-abbrev pub finish_of_event : Event → Option Finish
-finish_of_event (Exit status) = Some (Exited status)
-finish_of_event (Trap reason line) = Some (Trapped reason line)
-finish_of_event event = None
+-- the moments of one thread: those of its slot, until another thread begins there
+abbrev pub thread_moments : ℕ → List Moment → List Moment
+thread_moments slot all = until_begin (filter (λ (moment : Moment). moment.entry.actor == slot) all)
 
-abbrev pub bytes_of : History → List ℕ
-bytes_of [] = []
-bytes_of (entry ∷ rest) = bytes_of_event entry.event entry.answer ++ bytes_of rest
+abbrev pub answers_of : List Moment → List Answer
+answers_of made = map (λ (moment : Moment). moment.entry.answer) made
 
-abbrev pub first_some : Option Finish → Option Finish → Option Finish
-first_some None other = other
-first_some (Some finish) other = Some finish
+-- these events were made at these moments; where an object was freed by then, its half may be Freed
+abbrev pub AreShown : List Event → List Moment → Type 0
+AreShown [] [] = Unit {0}
+AreShown (event ∷ events) (moment ∷ made) = IsShownAs moment.memory event moment.entry.event × AreShown events made
+AreShown events made = ⊥
 
-abbrev pub finish_of : History → Option Finish
-finish_of [] = None
-finish_of (entry ∷ rest) = first_some (finish_of_event entry.event) (finish_of rest)
+-- these moments are what a thread so begun plays on their answers, where each loop makes at most n rounds
+abbrev pub IsPlayed : ℕ → PlainProgram → Start → List Moment → Type 0
+IsPlayed n program start made = AreShown (log_of (play n program start (answers_of made))).events made
 
--- the bytes put out, in order, and the Exit or Trap that came, or none
-pub record Observable : Type 0 where
-  pub bytes : List ℕ
-  pub finish : Option Finish
+-- where an event begins a thread in a slot, what follows is played; the thread's id is that of its slot and generation
+abbrev pub BeginIsPlayed : ℕ → PlainProgram → (ℕ → ℕ) → Memory → ℕ → Event → List Moment → Type 0
+BeginIsPlayed n program base memory slot (Begin function address half) made =
+    IsPlayed n program
+    (record { id = thread_id memory slot; function = function; argument = record { number = address; half = half }; base = base })
+    made
+BeginIsPlayed n program base memory slot event made = Unit {0}
 
-abbrev pub observable_of : History → Observable
-observable_of history = record { bytes = bytes_of history; finish = finish_of history }
+-- wherever a thread begins, what it makes is played
+abbrev pub ThreadsPlay : ℕ → PlainProgram → (ℕ → ℕ) → Memory → History → Type 0
+ThreadsPlay n program base memory [] = Unit {0}
+ThreadsPlay n program base memory (entry ∷ rest) =
+    let after = memory_after memory entry in
+    BeginIsPlayed n program base memory entry.actor entry.event (thread_moments entry.actor (moments after rest))
+    × ThreadsPlay n program base after rest
+
+-- ---- legal histories
+
+-- a history that a program may have, where each loop makes at most n rounds. The first memory has one started slot, that of
+-- `main`, so its Begin comes first; and no play goes on after its Exit, Trap or End. Objects never move, so a
+-- thread finds each one where the last memory has it
+pub record IsLegalHistory (history : History) (program : PlainProgram) (world : World) (n : ℕ) : Type 0 where
+  pub allowed : AreAllowed world (first_memory world program.main) history
+  pub played :
+      ThreadsPlay n program (address_in (last_memory (first_memory world program.main) history))
+      (first_memory world program.main) history

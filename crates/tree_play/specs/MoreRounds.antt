@@ -1,0 +1,10 @@
+-- A history stays legal with a greater bound, so its bound is no claim of its own.
+use Rattle.std.specs.Prelude.{ℕ, ◌≤◌}
+use Rattle.c_tree.specs.Plain.{PlainProgram}
+use Rattle.ideal_machine.specs.Memory.{World}
+use Rattle.tree_play.specs.Legal.{History, IsLegalHistory}
+
+abbrev pub MoreRounds : Type 0
+MoreRounds =
+    (history : History) (program : PlainProgram) (world : World) (n n' : ℕ) → n ≤ n' →
+    IsLegalHistory history program world n → IsLegalHistory history program world n'

@@ -1,0 +1,17 @@
+//! Laws of legal histories.
+
+ghost use Rattle.tree_play.specs.MoreRounds.{MoreRounds};
+ghost use Rattle.tree_play.specs.Worked.{MainReturns, NothingElse, NothingAfterExit, NoSecondBegin};
+
+/// A history stays legal where each loop may make more rounds.
+pub fn histories_stay_legal()
+    ensures { MoreRounds }
+{}
+
+/// A worked example: the histories of a program that returns 3.
+pub fn a_program_returns_once()
+    ensures main_returns { MainReturns }
+    ensures nothing_else { NothingElse }
+    ensures nothing_after_exit { NothingAfterExit }
+    ensures no_second_begin { NoSecondBegin }
+{}
