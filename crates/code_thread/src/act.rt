@@ -1,17 +1,17 @@
 //! One instruction on registers.
 
-ghost use Rattle.std.specs.Prelude.{◌≡◌, ◌+◌, ◌<◌, ◌^◌, length, Ok, Err, MatchResult};
-ghost use Rattle.filc_num.specs.Integers.{binary_of, convert_of};
+ghost use Rattle.std.specs.Prelude.{◌≡◌, ◌+◌, ◌<◌, ◌^◌, length};
 ghost use Rattle.filc_code.specs.Numbers.{operator_at, type_at};
-ghost use Rattle.filc_code.specs.WellFormed.{KeepsRegisters, KeepsNumbers, IsOperatorNumber, IsArithmeticNumber};
+ghost use Rattle.filc_code.specs.WellFormed.{KeepsRegisters, KeepsNumbers};
+ghost use Rattle.filc_code.specs.WellFormed.{IsOperatorNumber, IsArithmeticNumber};
 ghost use Rattle.ideal_machine.specs.Values.{integer, value_at, put_at};
-ghost use Rattle.ideal_machine.specs.Play.{right_operand};
-ghost use Rattle.code_thread.specs.Thread.{written, next_place, stage_of};
+ghost use Rattle.ideal_machine.specs.Phrases.{operator_result};
+ghost use Rattle.code_thread.specs.Thread.{IsActed, stage_of};
 
 use crate::stage::Stage;
 use filc_code::{Op, operator_at, type_at};
-use filc_num::{ArithFault, BinOp, binary, convert};
-use ideal_machine::{Event, Half, Value};
+use filc_num::{Arith, BinOp, binary, convert};
+use ideal_machine::{Half, Value};
 
 /// An integer as a value.
 pub const fn integer(number: u64) -> Value
@@ -45,7 +45,7 @@ pub fn put(registers: &mut Vec<Value>, register: u32, value: Value)
 fn arithmetic(op: u32, ty: u32, a: u64, b: u64) -> Result<u64, ArithFault>
     requires op { IsOperatorNumber op }
     requires ty { IsArithmeticNumber ty }
-    ensures { result ≡ binary_of (operator_at op) (type_at ty) (convert_of a (type_at ty)) (right_operand (operator_at op) (type_at ty) b) }
+    ensures { result ≡ operator_result (operator_at op) (type_at ty) a b }
 {
     let op = operator_at(op);
     let ty = type_at(ty);
@@ -56,24 +56,24 @@ fn arithmetic(op: u32, ty: u32, a: u64, b: u64) -> Result<u64, ArithFault>
     }
 }
 
-/// Carries out an instruction on registers and gives the place after it. Where arithmetic has no
+/// Carries out an instruction on registers and gives the index after it. Where arithmetic has no
 /// result nothing changes.
-pub fn act(registers: &mut Vec<Value>, op: Op, place: usize) -> Result<usize, ArithFault>
+pub fn act(registers: &mut Vec<Value>, op: Op, index: usize) -> Result<usize, Arith>
     requires registers { KeepsRegisters (length registers.old.items) op }
     requires numbers { KeepsNumbers op }
-    requires place { place + 1 < 2 ^ 64 }
-    ensures done { MatchResult result (λ next. (written op registers.old.items ≡ Ok registers.new.items) × (next ≡ next_place op place registers.old.items)) (λ refusal. (written op registers.old.items ≡ Err refusal) × (registers.new.items ≡ registers.old.items)) }
+    requires index { index + 1 < 2 ^ 64 }
+    ensures done { IsActed op index registers.old.items registers.new.items result }
     ensures length { length registers.new.items ≡ length registers.old.items }
 {
     match op {
         Op::Const(d, number) => {
             put(registers, d, integer(number));
-            Ok(place + 1)
+            Ok(index + 1)
         }
         Op::Move(d, a) => {
             let moved = value(registers, a);
             put(registers, d, moved);
-            Ok(place + 1)
+            Ok(index + 1)
         }
         Op::Binary(d, a, b, op, ty) => {
             let left = value(registers, a);
@@ -81,9 +81,9 @@ pub fn act(registers: &mut Vec<Value>, op: Op, place: usize) -> Result<usize, Ar
             match arithmetic(op, ty, left.number, right.number) {
                 Ok(number) => {
                     put(registers, d, integer(number));
-                    Ok(place + 1)
+                    Ok(index + 1)
                 }
-                Err(refusal) => Err(refusal),
+                Err(fault) => Err(fault),
             }
         }
         Op::Jump(target) => Ok(target as usize),
@@ -91,10 +91,10 @@ pub fn act(registers: &mut Vec<Value>, op: Op, place: usize) -> Result<usize, Ar
             if value(registers, a).number == 0 {
                 Ok(target as usize)
             } else {
-                Ok(place + 1)
+                Ok(index + 1)
             }
         }
-        Op::Return(_) | Op::Out(_) | Op::Exit(_) => Ok(place + 1),
+        Op::Return(_) | Op::Out(_) | Op::Exit(_) => Ok(index + 1),
     }
 }
 
@@ -106,22 +106,19 @@ pub fn stage_before(main: bool, op: Op, line: u32, registers: &Vec<Value>) -> St
     match op {
         Op::Return(a) => {
             let number = value(registers, a).number;
-            let event = if main {
-                Event::Exit {
-                    status: (number % 256) as u8,
-                }
+            if main {
+                Stage::Exits((number % 256) as u8)
             } else {
-                Event::End { result: number }
-            };
-            Stage::Asks(event, line)
+                Stage::Ends(number)
+            }
         }
         Op::Out(a) => {
             let byte = (value(registers, a).number % 256) as u8;
-            Stage::Asks(Event::Out { byte }, line)
+            Stage::PutsOut(byte, line)
         }
         Op::Exit(a) => {
             let status = (value(registers, a).number % 256) as u8;
-            Stage::Asks(Event::Exit { status }, line)
+            Stage::Exits(status)
         }
         Op::Const(..) | Op::Move(..) | Op::Binary(..) | Op::Jump(_) | Op::JumpZero(..) => {
             Stage::Acts(op, line)

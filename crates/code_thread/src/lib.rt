@@ -5,20 +5,14 @@
 //! `specs/Thread.antt` says what each call makes of it, and `specs/Follows.antt` that this is the
 //! play.
 //!
-//! A frame of registers is taken once, when a thread is made, and no call after that takes memory or
-//! looks at more than one instruction.
+//! A frame of registers is taken once, when a thread is made, and no call after that takes memory
+//! or looks at more than one instruction.
 #![tactic(auto)]
 
-ghost use Rattle.code_thread.specs.Follows.{ThreadFollows};
-
 mod act;
+pub mod laws;
 mod stage;
 mod thread;
 
 pub use stage::{Halt, Stage, Want};
 pub use thread::CodeThread;
-
-/// The law behind the calls of `CodeThread`: they go on in the play of the code.
-pub fn calls_follow_the_play()
-    ensures { ThreadFollows }
-{}

@@ -2,7 +2,7 @@
 
 use filc_code::Op;
 use filc_num::Reason;
-use ideal_machine::Event;
+use ideal_machine::{Event, Finish};
 
 /// What a thread wants next.
 #[derive(Clone, Copy, Debug, PartialEq, Eq)]
@@ -18,21 +18,25 @@ pub enum Want {
 /// How a thread ended.
 #[derive(Clone, Copy, Debug, PartialEq, Eq)]
 pub enum Halt {
-    /// Its function returned.
+    /// Its function returned this.
     Returned(u64),
-    /// It ended the program with this status.
-    Exited(u8),
-    /// It stopped the program for this reason, at this line.
-    Trapped(Reason, u32),
+    /// It ended the program, so.
+    Finished(Finish),
 }
 
-/// Where a thread is in the instruction at its place.
+/// Where a thread is in the instruction at its index: what it does next.
 #[derive(Clone, Copy, Debug, PartialEq, Eq)]
 pub enum Stage {
-    /// Before one that works on registers alone: its operation and its line.
+    /// An operation on registers alone, of this line.
     Acts(Op, u32),
-    /// At an event, which waits for its answer, of an instruction of this line.
-    Asks(Event, u32),
-    /// It has ended.
+    /// Puts out this byte, at this line.
+    PutsOut(u8, u32),
+    /// Ends the thread with this result.
+    Ends(u64),
+    /// Ends the program with this status.
+    Exits(u8),
+    /// Stops the program for this reason, at this line: the instruction has begun.
+    Traps(Reason, u32),
+    /// Nothing: it has ended.
     Over(Halt),
 }

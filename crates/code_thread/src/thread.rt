@@ -1,23 +1,23 @@
 //! A thread that carries out register code.
 
 ghost use Rattle.std.specs.Prelude.{◌≡◌, ◌<◌, length, IfOk, slice_get};
-ghost use Rattle.ideal_machine.specs.Play.{reason_of};
+ghost use Rattle.ideal_machine.specs.Phrases.{reason_of};
 ghost use Rattle.filc_code.specs.Plain.{plain_function};
-ghost use Rattle.filc_code.specs.WellFormed.{IsFunctionWellFormed};
+ghost use Rattle.filc_code.specs.WellFormed.{register_count, IsFunctionWellFormed};
 ghost use Rattle.code_thread.specs.Exec.{first_registers};
-ghost use Rattle.code_thread.specs.Thread.{want_of, begun, stepped, answered, is_trapping, stage_at, IsThreadOf};
-ghost use Rattle.code_thread.specs.declared.stage.Want.TheVariants.{Instruction as WantInstruction, Stopped};
+ghost use Rattle.code_thread.specs.Thread.{want_of, is_trapping, stage_at, IsThreadOf};
+ghost use Rattle.code_thread.specs.Thread.{thread_after_begin, thread_after_step};
+ghost use Rattle.code_thread.specs.Thread.{thread_after_answer};
+ghost use Rattle.code_thread.specs.declared.stage.Want.TheVariants.{Instruction as WantInstruction};
+ghost use Rattle.code_thread.specs.declared.stage.Want.TheVariants.{Stopped};
 
 use crate::act;
 use crate::stage::{Halt, Stage, Want};
-use filc_code::{Code, CodeFunction};
-use filc_num::{ArithFault, Reason};
-use ideal_machine::{Answer, Event, Half, Value};
+use filc_code::{Code, CodeFunction, REGISTERS};
+use filc_num::{Arith, Reason};
+use ideal_machine::{Answer, Event, Finish, Half, Value};
 use std::alloc::{AllocError as NoMemory, Global};
 use std::marker::Model;
-
-/// How many registers a frame has.
-const FRAME: usize = 256;
 
 /// What each register is when a function is entered.
 const ZERO: Value = Value {
@@ -25,7 +25,7 @@ const ZERO: Value = Value {
     half: Half::Nothing,
 };
 
-/// A thread: its place in the code, its registers, and what it wants. No call but `new` takes
+/// A thread: its index in the code, its registers, and what it wants. No call but `new` takes
 /// memory, and each does a constant amount of work. The code that is given to a call is that of the
 /// last `begin`.
 #[derive(Drop)]
@@ -33,48 +33,57 @@ pub struct CodeThread {
     registers: Vec<Value>,
     function: u32,
     main: bool,
-    place: usize,
+    index: usize,
     stage: Stage,
 }
 
 impl Model for CodeThread {
     ghost use Rattle.std.specs.Prelude.{◌≡◌, length};
+    ghost use Rattle.filc_code.specs.WellFormed.{register_count};
     ghost use Rattle.code_thread.specs.Thread.{Thread};
 
     ghost Value = { Thread };
 
-    ghost view = { λ t. record { function = t.function; main = t.main; place = t.place; registers = t.registers.items; stage = t.stage } };
+    ghost view = {
+        λ t. record {
+            function = t.function;
+            main = t.main;
+            index = t.index;
+            registers = t.registers.items;
+            stage = t.stage;
+        }
+    };
 
-    ghost invariant = { λ t. length t.registers.items ≡ 256 };
+    ghost invariant = { λ t. length t.registers.items ≡ register_count };
 }
 
 /// Why arithmetic without a result stops a thread.
-fn reason_of(refusal: ArithFault) -> Reason
-    ensures { result ≡ reason_of refusal }
+fn reason_of(fault: Arith) -> Reason
+    ensures { result ≡ reason_of fault }
 {
-    match refusal {
-        ArithFault::Divide => Reason::Divide,
-        ArithFault::Shift => Reason::Shift,
+    match fault {
+        Arith::Divide => Reason::Divide,
+        Arith::Shift => Reason::Shift,
     }
 }
 
-/// The stage of a thread that comes to a place of a function.
-fn arrive(function: &CodeFunction, main: bool, place: usize, registers: &Vec<Value>) -> Stage
-    requires place { place < length function.now.instructions.items }
-    requires registers { length registers.now.items ≡ 256 }
+/// The stage of a thread that comes to an index of a function.
+fn arrive(function: &CodeFunction, main: bool, index: usize, registers: &Vec<Value>) -> Stage
+    requires index { index < length function.now.instructions.items }
+    requires registers { length registers.now.items ≡ register_count }
     requires formed { IsFunctionWellFormed (plain_function function.now) }
-    ensures { result ≡ stage_at main (slice_get function.now.instructions.items place) registers.now.items }
+    ensures { result ≡ stage_at main (slice_get function.now.instructions.items index) registers.now.items }
 {
-    let instruction = function.instructions[place];
+    let instruction = function.instructions[index];
     act::stage_before(main, instruction.op, instruction.line, registers)
 }
 
 /// Makes each register zero.
 fn clear(registers: &mut Vec<Value>)
-    requires { length registers.old.items ≡ 256 }
+    requires { length registers.old.items ≡ register_count }
     ensures { registers.new.items ≡ first_registers }
 {
-    for index in 0..FRAME {
+    for index in 0..REGISTERS {
         registers[index] = ZERO;
     }
 }
@@ -84,15 +93,15 @@ impl CodeThread {
     pub fn new(alloc: Global) -> Result<CodeThread, NoMemory>
         ensures stopped { IfOk result (λ thread. want_of thread ≡ Stopped) }
     {
-        let mut registers = Vec::with_capacity(alloc, FRAME)?;
-        for _index in 0..FRAME {
+        let mut registers = Vec::with_capacity(alloc, REGISTERS)?;
+        for _index in 0..REGISTERS {
             registers.push(ZERO)?;
         }
         Ok(CodeThread {
             registers,
             function: 0,
             main: false,
-            place: 0,
+            index: 0,
             stage: Stage::Over(Halt::Returned(0)),
         })
     }
@@ -103,7 +112,10 @@ impl CodeThread {
     {
         match self.stage {
             Stage::Acts(..) => Want::Instruction,
-            Stage::Asks(event, _) => Want::Event(event),
+            Stage::PutsOut(byte, _) => Want::Event(Event::Out { byte }),
+            Stage::Ends(result) => Want::Event(Event::End { result }),
+            Stage::Exits(status) => Want::Event(Event::Exit { status }),
+            Stage::Traps(reason, line) => Want::Event(Event::Trap { reason, line }),
             Stage::Over(_) => Want::Stopped,
         }
     }
@@ -113,19 +125,19 @@ impl CodeThread {
     pub fn is_trapping(&self) -> bool
         ensures { result ≡ is_trapping self.now }
     {
-        matches!(self.stage, Stage::Asks(Event::Trap { .. }, _))
+        matches!(self.stage, Stage::Traps(..))
     }
 
     /// Starts a thread with a function of the code.
     pub fn begin(&mut self, code: &Code, function: u32)
         requires { function < length code.now.functions }
-        ensures exact { self.new ≡ begun code.now function }
+        ensures exact { self.new ≡ thread_after_begin code.now function }
         ensures of_code { IsThreadOf code.now self.new }
     {
         clear(&mut self.registers);
         self.function = function;
         self.main = function == code.main();
-        self.place = 0;
+        self.index = 0;
         self.stage = arrive(code.function(function), self.main, 0, &self.registers);
     }
 
@@ -133,48 +145,44 @@ impl CodeThread {
     pub fn step(&mut self, code: &Code)
         requires of_code { IsThreadOf code.now self.old }
         requires wanted { want_of self.old ≡ WantInstruction }
-        ensures exact { self.new ≡ stepped code.now self.old }
+        ensures exact { self.new ≡ thread_after_step code.now self.old }
         ensures of_code { IsThreadOf code.now self.new }
     {
         let Stage::Acts(op, line) = self.stage else {
             return;
         };
         let function = code.function(self.function);
-        match act::act(&mut self.registers, op, self.place) {
-            Ok(place) => {
-                self.place = place;
-                self.stage = arrive(function, self.main, place, &self.registers);
+        match act::act(&mut self.registers, op, self.index) {
+            Ok(index) => {
+                self.index = index;
+                self.stage = arrive(function, self.main, index, &self.registers);
             }
-            Err(refusal) => {
-                let reason = reason_of(refusal);
-                self.stage = Stage::Asks(Event::Trap { reason, line }, line);
-            }
+            Err(fault) => self.stage = Stage::Traps(reason_of(fault), line),
         }
     }
 
     /// Takes in the answer to the event that the thread wants.
     pub fn answer(&mut self, code: &Code, answer: Answer)
         requires of_code { IsThreadOf code.now self.old }
-        ensures exact { self.new ≡ answered code.now self.old answer }
+        ensures exact { self.new ≡ thread_after_answer code.now self.old answer }
         ensures of_code { IsThreadOf code.now self.new }
     {
-        let Stage::Asks(event, line) = self.stage else {
-            return;
-        };
-        match (event, answer) {
-            (Event::Out { .. }, Answer::Done) => {
+        match (self.stage, answer) {
+            (Stage::PutsOut(..), Answer::Done) => {
                 let function = code.function(self.function);
-                let place = self.place + 1;
-                self.place = place;
-                self.stage = arrive(function, self.main, place, &self.registers);
+                let index = self.index + 1;
+                self.index = index;
+                self.stage = arrive(function, self.main, index, &self.registers);
             }
-            (Event::Out { .. }, Answer::Refused(reason)) => {
-                self.stage = Stage::Asks(Event::Trap { reason, line }, line);
+            (Stage::PutsOut(_, line), Answer::Refused(reason)) => {
+                self.stage = Stage::Traps(reason, line);
             }
-            (Event::End { result }, _) => self.stage = Stage::Over(Halt::Returned(result)),
-            (Event::Exit { status }, _) => self.stage = Stage::Over(Halt::Exited(status)),
-            (Event::Trap { reason, line }, _) => {
-                self.stage = Stage::Over(Halt::Trapped(reason, line));
+            (Stage::Ends(result), _) => self.stage = Stage::Over(Halt::Returned(result)),
+            (Stage::Exits(status), _) => {
+                self.stage = Stage::Over(Halt::Finished(Finish::Exited(status)));
+            }
+            (Stage::Traps(reason, line), _) => {
+                self.stage = Stage::Over(Halt::Finished(Finish::Trapped(reason, line)));
             }
             _ => {}
         }

@@ -1,4 +1,4 @@
--- The numbers of operators and types in instructions: their places in the order of their declaration.
+-- The numbers of operators and types in instructions: counted from 0 in the order of their declaration.
 use Rattle.std.specs.Prelude.{ℕ, List, [], ◌∷◌, slice_index_or}
 use Rattle.filc_num.specs.declared.integer.BinOp.{BinOp}
 use Rattle.filc_num.specs.declared.integer.BinOp.TheVariants.{Add, Sub, Mul, Div, Rem, And, Or, Xor, Shl, Shr, Lt, Le, Gt, Ge, Eq, Ne}

@@ -1,5 +1,5 @@
 -- Code as contracts see it: plain records of lists and numbers.
-use Rattle.std.specs.Prelude.{ℕ, List, Option, map, slice_get, option_and_then}
+use Rattle.std.specs.Prelude.{ℕ, ◌<◌, List, Option, IsSomeAnd, length, map, slice_get, option_and_then}
 use Rattle.filc_code.specs.declared.code.CodeFunction.{CodeFunction}
 use Rattle.filc_code.specs.declared.op.Instruction.{Instruction}
 
@@ -23,6 +23,10 @@ plain_function f = record { values = f.values; parameters = f.parameters; kind =
 abbrev pub plain_code : List CodeFunction → ℕ → PlainCode
 plain_code functions main = record { functions = map plain_function functions; main = main }
 
--- the instruction at a place of a function
+-- the instruction at an index of a function
 abbrev pub instruction_at : PlainCode → ℕ → ℕ → Option Instruction
-instruction_at code function place = option_and_then (λ f. slice_get f.instructions place) (slice_get code.functions function)
+instruction_at code function index = option_and_then (λ f. slice_get f.instructions index) (slice_get code.functions function)
+
+-- a function has an instruction at this index
+abbrev pub HasInstruction : PlainCode → ℕ → ℕ → Type 0
+HasInstruction code function index = IsSomeAnd (slice_get code.functions function) (λ f. index < length f.instructions)

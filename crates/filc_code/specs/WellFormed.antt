@@ -9,6 +9,10 @@ use Rattle.filc_code.specs.declared.op.Op.{Op}
 use Rattle.filc_code.specs.declared.op.Op.TheVariants.{Const, Move, Binary, Jump, JumpZero, Return, Out, Exit}
 use Rattle.filc_code.specs.Plain.{PlainFunction, PlainCode}
 
+-- how many registers a frame has
+abbrev pub register_count : ℕ
+register_count = 256
+
 -- each register that the instruction names is one of the first so many
 abbrev pub KeepsRegisters : ℕ → Op → Type 0
 KeepsRegisters values (Const d constant) = d < values
@@ -59,7 +63,7 @@ EndsInLeaving (i ∷ j ∷ more) = EndsInLeaving (j ∷ more)
 
 -- what each function's code keeps
 pub record IsFunctionWellFormed (f : PlainFunction) : Type 0 where
-  pub values : f.values ≤ 256
+  pub values : f.values ≤ register_count
   pub parameters : f.parameters ≤ f.values
   pub each : All (λ (i : Instruction). IsOpWellFormed f.values (length f.instructions) i.op) f.instructions
   pub ends : EndsInLeaving f.instructions

@@ -1,11 +1,14 @@
 //! Code: functions of instructions, of which one is `main`.
 
-ghost use Rattle.std.specs.Prelude.{◌≡◌, ◌<◌, IsSomeAnd, Some, length, map, slice_get};
-ghost use Rattle.filc_code.specs.Plain.{plain_function, plain_code, instruction_at};
+ghost use Rattle.std.specs.Prelude.{◌≡◌, ◌<◌, Some, length, map, slice_get};
+ghost use Rattle.filc_code.specs.Plain.{plain_function, plain_code, instruction_at, HasInstruction};
 ghost use Rattle.filc_code.specs.WellFormed.{IsWellFormed, IsFunctionWellFormed};
 
 use crate::op::Instruction;
 use std::marker::Model;
+
+/// How many registers a frame has: no function's code names another.
+pub const REGISTERS: usize = 256;
 
 /// A function's code. Its registers are numbered from 0, and its parameters are the first ones.
 #[derive(Debug, Drop)]
@@ -73,11 +76,11 @@ impl Code {
         &self.functions[number as usize]
     }
 
-    /// The instruction at this place of this function.
-    pub fn instruction(&self, function: u32, place: u32) -> Instruction
-        requires { IsSomeAnd (slice_get self.now.functions function) (λ f. place < length f.instructions) }
-        ensures { instruction_at self.now function place ≡ Some result }
+    /// The instruction at this index of this function.
+    pub fn instruction(&self, function: u32, index: u32) -> Instruction
+        requires { HasInstruction self.now function index }
+        ensures { instruction_at self.now function index ≡ Some result }
     {
-        self.functions[function as usize].instructions[place as usize]
+        self.functions[function as usize].instructions[index as usize]
     }
 }

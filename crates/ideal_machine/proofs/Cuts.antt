@@ -1,6 +1,5 @@
 -- Plays with a bound: a greater bound goes on where a smaller one cuts, and a cut comes only after so many jumps.
 use Rattle.std.proofs.Common.{◌≡◌, ℕ, zero, suc, ◌+◌, ◌≤◌, List, Option, Some, None, Bool, true, false, Result, Ok, Err, refl, sym, ap, subst, arith}
-use Rattle.filc_num.specs.Integers.{convert_of, binary_of}
 use Rattle.filc_num.specs.declared.integer.IntType.{IntType}
 use Rattle.filc_num.specs.declared.integer.BinOp.{BinOp}
 use Rattle.filc_num.specs.declared.integer.Arith.{Arith}
@@ -8,7 +7,7 @@ use Rattle.filc_num.specs.declared.reason.Reason.{Reason}
 use Rattle.ideal_machine.specs.declared.value.Value.{Value}
 use Rattle.ideal_machine.specs.Queries.{Query, Reply, event_of}
 use Rattle.ideal_machine.specs.Play.{Stop, Finished, Waits, Cut, Play, Gives, Stops, Asks, Jump, Call, bind, Log, with_event, with_jump, with_call, Behaviour, Goes, Ends, log_of, run}
-use Rattle.ideal_machine.specs.Phrases.{unless_refused, leave, put_out, right_operand, arithmetic_result, arithmetic, if_zero}
+use Rattle.ideal_machine.specs.Phrases.{unless_refused, leave, put_out, operator_result, arithmetic_result, arithmetic, if_zero}
 use Rattle.ideal_machine.specs.Reaches.{Reaches}
 use Rattle.ideal_machine.proofs.Runs.{both_reply, one_reply, run_later}
 
@@ -161,4 +160,4 @@ result_far n (Ok m) line = tt
 result_far n (Err fault) line = λ _. tt
 
 pub arithmetic_far : (n : ℕ) (op : BinOp) (ty : IntType) (a b : Value) (line : ℕ) → IsFar n (arithmetic op ty a b line)
-arithmetic_far n op ty a b line = result_far n (binary_of op ty (convert_of a.number ty) (right_operand op ty b.number)) line
+arithmetic_far n op ty a b line = result_far n (operator_result op ty a.number b.number) line

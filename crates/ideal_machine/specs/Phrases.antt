@@ -78,9 +78,11 @@ arithmetic_result (Ok n) line = Gives tt (integer n)
 arithmetic_result (Err fault) line = trap (reason_of fault) line
 
 -- a op b, made in a type to which both operands are converted (C11 6.3.1.8)
+abbrev pub operator_result : BinOp → IntType → ℕ → ℕ → Result ℕ Arith
+operator_result op ty a b = binary_of op ty (convert_of a ty) (right_operand op ty b)
+
 abbrev pub arithmetic : BinOp → IntType → Value → Value → ℕ → Phrase Value
-arithmetic op ty a b line =
-    arithmetic_result (binary_of op ty (convert_of a.number ty) (right_operand op ty b.number)) line
+arithmetic op ty a b line = arithmetic_result (operator_result op ty a.number b.number) line
 
 -- ---- a choice
 

@@ -1,7 +1,6 @@
 -- A thread begins before the first instruction of its function, with a frame of zeros.
 use Rattle.std.proofs.Common.{length, ap, ◌∙◌}
-use Rattle.std.specs.Prelude.{◌==◌}
-use Rattle.code_thread.proofs.Threads.{arrived, first_inside, first_long}
+use Rattle.code_thread.proofs.Threads.{arrives_at_stage, first_inside, first_long}
 use Rattle.code_thread.proofs.thread.CodeThread.begin.Goals as goal
 
 pub arrive-self-inside-requires-clause-registers : goal.arrive-self-inside-requires-clause-registers
@@ -12,6 +11,5 @@ invariant_of-self c = ap length c.clear.ensures ∙ first_long
 
 pub returns-clause-of_code : goal.returns-clause-of_code
 returns-clause-of_code c =
-    arrived c.args.code.now c.args.function _ (c.args.function == c.main.result) 0 c.clear.new.registers.items c.arrive-self-inside.result
-    c.function.ensures.value c.function.ensures.well_formed (first_inside _ c.function.ensures.well_formed.ends)
-    (ap length c.clear.ensures ∙ first_long) c.arrive-self-inside.ensures
+    arrives_at_stage c.args.code.now _ _ c.function.ensures.value c.function.ensures.well_formed
+    (first_inside _ c.function.ensures.well_formed.ends) (ap length c.clear.ensures ∙ first_long) c.arrive-self-inside.ensures
