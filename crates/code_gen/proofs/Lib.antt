@@ -1,5 +1,5 @@
 pub mod Numbers
-pub mod Place
+pub mod Between
 pub mod Registers
 pub mod Stretch
 pub mod Expressions
@@ -8,3 +8,4 @@ pub mod Program
 pub mod Views
 pub mod Patch
 pub mod Formed
+mod Idling

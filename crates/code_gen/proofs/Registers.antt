@@ -9,22 +9,6 @@ use Rattle.ideal_machine.proofs.Values.{value_at-put_same, value_at-put_other}
 pub record Agree (k : ℕ) (regs env : List Value) : Type 0 where
   pub same : (x : ℕ) → x < k → value_at regs x ≡ value_at env x
 
--- the registers from k up to t stay
-pub record Kept (k t : ℕ) (regs after : List Value) : Type 0 where
-  pub same : (x : ℕ) → k ≤ x → x < t → value_at after x ≡ value_at regs x
-
-pub kept_self : (k t : ℕ) (regs : List Value) → Kept k t regs regs
-kept_self k t regs = record { same = λ x _ _. refl }
-
-pub kept_on : (k t t1 : ℕ) (regs regs1 regs2 : List Value) → t ≤ t1 → Kept k t1 regs regs1 → Kept k t regs1 regs2 → Kept k t regs regs2
-kept_on k t t1 regs regs1 regs2 le h h1 =
-    record { same = λ x a b. let c : x < t1 = omega arith in h1.same x a b ∙ h.same x a c }
-
--- a write above
-pub kept_put : (k t d : ℕ) (regs : List Value) (v : Value) → t ≤ d → Kept k t regs (put_at regs d v)
-kept_put k t d regs v le =
-    record { same = λ x a b. let ne : x ≢ d = omega arith in value_at-put_other regs d x v ne }
-
 pub agree_put : (k d : ℕ) (regs env : List Value) (v : Value) → k ≤ d → Agree k regs env → Agree k (put_at regs d v) env
 agree_put k d regs env v le h =
     record { same = λ x a. let ne : x ≢ d = omega arith in value_at-put_other regs d x v ne ∙ h.same x a }
@@ -37,3 +21,30 @@ agree_both k n regs env v h = record { same = λ x a. either x a (cases_eq x n) 
       subst (λ y. value_at (put_at regs n v) y ≡ value_at (put_at env n v) y) (sym e)
       (value_at-put_same regs n v ∙ sym (value_at-put_same env n v))
   either x a (inr ne) = value_at-put_other regs n x v ne ∙ h.same x a ∙ sym (value_at-put_other env n x v ne)
+
+-- the registers agree with the locals, and from k up to t are those of the base
+pub record Matches (k t : ℕ) (base regs env : List Value) : Type 0 where
+  pub agree : Agree k regs env
+  pub kept : (x : ℕ) → k ≤ x → x < t → value_at regs x ≡ value_at base x
+
+-- they are the base
+pub matches_self : (k t : ℕ) (regs env : List Value) → Agree k regs env → Matches k t regs regs env
+matches_self k t regs env agree = record { agree = agree; kept = λ x _ _. refl }
+
+-- none are kept
+pub matches_none : (k : ℕ) (base regs env : List Value) → Agree k regs env → Matches k k base regs env
+matches_none k base regs env agree = record { agree = agree; kept = λ x a b. absurd (omega arith) }
+
+-- a write above
+pub matches_put :
+    (k t d : ℕ) (base regs env : List Value) (v : Value) → k ≤ d → t ≤ d → Matches k t base regs env → Matches k t base (put_at regs d v) env
+matches_put k t d base regs env v ld le h = record {
+  agree = agree_put k d regs env v ld h.agree;
+  kept = λ x a b. let ne : x ≢ d = omega arith in value_at-put_other regs d x v ne ∙ h.kept x a b;
+}
+
+-- what keeps more, from registers that match
+pub matches_on :
+    (k t t1 : ℕ) (base regs regs1 env env1 : List Value) → t ≤ t1 → Matches k t base regs env → Matches k t1 regs regs1 env1 → Matches k t base regs1 env1
+matches_on k t t1 base regs regs1 env env1 le h h1 =
+    record { agree = h1.agree; kept = λ x a b. let c : x < t1 = omega arith in h1.kept x a c ∙ h.kept x a b }

@@ -1,165 +1,145 @@
--- Stretches of code: what it means that the code between two places runs an outcome.
+-- Stretches of code: what it means that a play of code, with a bound, runs a behaviour.
 --
--- Where the play goes on, the code comes to the stretch's end with the play's log, and with the play's locals in
--- the first registers; where the play ends, the code ends like it. `bind_runs` is the one lemma of every
--- construct: what a first part does, and what a second does from wherever the first may end, give the two in a row.
-use Rattle.std.proofs.Common.{◌≡◌, ℕ, suc, ◌+◌, ◌%◌, ◌≤◌, List, [], ◌∷◌, Some, Bool, true, false, Result, Ok, Err, sym, ap, ◌∙◌, subst, arith}
-use Rattle.std.specs.Prelude.{slice_get}
-use Rattle.filc_num.specs.Integers.{convert_of, binary_of}
-use Rattle.filc_num.specs.declared.integer.ArithFault.{ArithFault}
-use Rattle.filc_num.specs.declared.integer.IntType.{IntType}
-use Rattle.filc_num.specs.declared.integer.BinOp.{BinOp}
-use Rattle.filc_num.specs.declared.reason.Reason.{Reason}
+-- Where the play goes on, the code lands at an index with registers of which something is known; where the play ends, the
+-- code ends like it. `bind_runs` is the one lemma of every construct: what a first part does, and what a second does
+-- from wherever the first may land, give the two in a row. `phrase_runs` is the one lemma of every event: both sides say
+-- the same phrase, so only what follows it is to be run.
+use Rattle.std.proofs.Common.{◌≡◌, ℕ, zero, suc, ◌+◌, ◌<◌, ◌≤◌, List, Some, Bool, true, false, refl, sym, ap, ◌∙◌, subst}
+use Rattle.std.specs.Prelude.{slice_get, nat_lt}
+use Rattle.std.proofs.lemmas.Bool.{lt-ltb, le-ltb}
 use Rattle.filc_code.specs.declared.op.Instruction.{Instruction}
-use Rattle.filc_code.specs.declared.op.Op.TheVariants.{Binary, Return, Out}
-use Rattle.filc_code.specs.Numbers.{operator_number, type_at, type_number}
+use Rattle.filc_code.specs.declared.op.Op.TheVariants.{Jump, JumpZero}
 use Rattle.ideal_machine.specs.declared.value.Value.{Value}
-use Rattle.ideal_machine.specs.declared.event.Event.TheVariants.{Out as OutEvent, Trap}
-use Rattle.ideal_machine.specs.declared.event.Answer.{Answer}
-use Rattle.ideal_machine.specs.declared.event.Answer.TheVariants.{Granted, Refused, Done, Number, Found, Opened, Made, Absent, End}
-use Rattle.ideal_machine.specs.Memory.{Trapped}
-use Rattle.ideal_machine.specs.Values.{State, integer, value_at, put_at}
-use Rattle.ideal_machine.specs.Play.{Returned, Finished, Waits, Cut, Play, Stops, bind, Log, noted, Outcome, Goes, Ends, fits, heard_if, heard, run, trap, leave, after_out, put_out, right_operand, reason_of, after_arithmetic, computed}
-use Rattle.ideal_machine.proofs.Laws.{heard_one, then_do, run_bind}
-use Rattle.code_thread.specs.Exec.{act, act_at, exec}
+use Rattle.ideal_machine.specs.Values.{value_at}
+use Rattle.ideal_machine.specs.Play.{Play, bind, Log, with_jump, Behaviour, Goes, Ends, run}
+use Rattle.ideal_machine.specs.Phrases.{Phrase, if_zero}
+use Rattle.ideal_machine.proofs.Runs.{then_do, run_bind}
+use Rattle.code_thread.specs.Exec.{go_to, act, act_at, exec}
 use Rattle.code_gen.specs.Code.{at_line}
-use Rattle.code_gen.proofs.Numbers.{operator_back, type_back}
-use Rattle.code_gen.proofs.Registers.{Agree, Kept, kept_self, kept_on, kept_put}
 
--- an outcome that no code after it changes: the program has ended, or the thread waits or is cut
-abbrev pub IsEnd : Outcome → Type 0
-IsEnd (Goes env v w) = ⊥
-IsEnd (Ends (Returned v) w) = ⊥
-IsEnd (Ends (Finished f) w) = Unit {0}
-IsEnd (Ends Waits w) = Unit {0}
-IsEnd (Ends Cut w) = Unit {0}
+-- where code runs: whether its thread is that of `main`, and the function's code
+pub record Site : Type 0 where
+  pub main : Bool
+  pub code : List Instruction
 
-trap_ends : (r : Reason) (line : ℕ) (w : Log) → IsEnd (run (trap r line) w)
-trap_ends r line w = heard_one IsEnd (Trap r line) w.answers w (λ a. run (Stops (Finished (Trapped r line)))) tt (λ a rest. tt)
+-- what code does, with each bound
+abbrev pub Bounded : Type 0
+Bounded = ℕ → Phrase ℕ
 
-module _ (main : Bool) (code : List Instruction) where
-  -- the code comes from one place, registers and log to others: whatever it does there with m instructions, it
-  -- does from here with some
-  abbrev pub Comes : ℕ → List Value → Log → ℕ → List Value → Log → Type 0
-  Comes pc regs w pc1 regs1 w1 = (m : ℕ) → (j : ℕ) × (run (exec main code j pc regs) w ≡ run (exec main code m pc1 regs1) w1)
+-- the play from an index, with registers
+abbrev pub from : Site → ℕ → List Value → Bounded
+from site pc regs m = exec site.main site.code m pc regs
 
-  -- it comes to a function's return, whatever follows that
-  abbrev pub Leaves : ℕ → List Value → Log → Value → Log → Type 0
-  Leaves pc regs w v w1 = (m : ℕ) → (j : ℕ) × (run (exec main code j pc regs) w ≡ run (leave main v) w1)
+-- whatever the second does with m instructions, the first does with some
+abbrev pub Comes : Bounded → Log → Bounded → Log → Type 0
+Comes K w K1 w1 = (m : ℕ) → (j : ℕ) × (run (K j) w ≡ run (K1 m) w1)
 
-  -- it ends so
-  abbrev pub Stands : ℕ → List Value → Log → Outcome → Type 0
-  Stands pc regs w o = (j : ℕ) × (run (exec main code j pc regs) w ≡ o)
+pub comes_on : (K : Bounded) (w : Log) (K1 : Bounded) (w1 : Log) (K2 : Bounded) (w2 : Log) → Comes K w K1 w1 → Comes K1 w1 K2 w2 → Comes K w K2 w2
+comes_on K w K1 w1 K2 w2 a b m = let y = b m in let x = a y.0 in (x.0, x.1 ∙ y.1)
 
-  -- the code comes to the end of a stretch, where V holds of the registers and the play's value
-  pub record Arrives (V : List Value → Value → Type 0) (k t pc : ℕ) (regs : List Value) (w : Log) (pc1 : ℕ) (env : State) (v : Value) (w1 : Log) : Type 0 where
-    pub after : List Value
-    pub comes : Comes pc regs w pc1 after w1
-    pub agree : Agree k after env
-    pub kept : Kept k t regs after
-    pub value : V after v
+-- what is known where a play gives a state and a value, and code stands at an index with registers
+abbrev pub Landing : Type 0 → Type 0 → Type 1
+Landing S A = S → A → ℕ → List Value → Type 0
 
-  -- the code of a stretch runs an outcome
-  abbrev pub Runs : (List Value → Value → Type 0) → ℕ → ℕ → ℕ → List Value → Log → ℕ → Outcome → Type 0
-  Runs V k t pc regs w pc1 (Goes env v w1) = Arrives V k t pc regs w pc1 env v w1
-  Runs V k t pc regs w pc1 (Ends (Returned v) w1) = Leaves pc regs w v w1
-  Runs V k t pc regs w pc1 (Ends (Finished f) w1) = Stands pc regs w (Ends (Finished f) w1)
-  Runs V k t pc regs w pc1 (Ends Waits w1) = Stands pc regs w (Ends Waits w1)
-  Runs V k t pc regs w pc1 (Ends Cut w1) = Stands pc regs w (Ends Cut w1)
+pub record Arrives {S A : Type 0} (site : Site) (P : Landing S A) (K : Bounded) (w : Log) (state : S) (v : A) (w1 : Log) : Type 0 where
+  pub index : ℕ
+  pub after : List Value
+  pub comes : Comes K w (from site index after) w1
+  pub holds : P state v index after
 
-  pub end_runs : (V : List Value → Value → Type 0) (k t pc : ℕ) (regs : List Value) (w : Log) (pc1 : ℕ) (o : Outcome) → IsEnd o → Stands pc regs w o → Runs V k t pc regs w pc1 o
-  end_runs V k t pc regs w pc1 (Goes env v w1) e h = absurd e
-  end_runs V k t pc regs w pc1 (Ends (Returned v) w1) e h = absurd e
-  end_runs V k t pc regs w pc1 (Ends (Finished f) w1) e h = h
-  end_runs V k t pc regs w pc1 (Ends Waits w1) e h = h
-  end_runs V k t pc regs w pc1 (Ends Cut w1) e h = h
+-- code runs a behaviour: it lands where the play goes on, and ends where it ends
+abbrev pub Runs : {S A : Type 0} → Site → Landing S A → Bounded → Log → Behaviour S A → Type 0
+Runs site P K w (Goes state v w1) = Arrives site P K w state v w1
+Runs site P K w (Ends e w1) = (j : ℕ) × (run (K j) w ≡ Ends e w1)
 
-  -- a stretch after another
-  pub runs_after : (V : List Value → Value → Type 0) (k t t1 pc : ℕ) (regs : List Value) (w : Log) (pc1 : ℕ) (regs1 : List Value) (w1 : Log) (pc2 : ℕ) (o : Outcome) → t ≤ t1 → Comes pc regs w pc1 regs1 w1 → Kept k t1 regs regs1 → Runs V k t pc1 regs1 w1 pc2 o → Runs V k t pc regs w pc2 o
-  runs_after V k t t1 pc regs w pc1 regs1 w1 pc2 (Goes env v w2) le c kept r = record {
+module _ (site : Site) where
+  -- code that comes to code that runs it
+  pub came :
+      {S A : Type 0} (P : Landing S A) (K : Bounded) (w : Log) (K1 : Bounded) (w1 : Log) (o : Behaviour S A) → Comes K w K1 w1 → Runs site P K1 w1 o →
+      Runs site P K w o
+  came P K w K1 w1 (Goes s v w2) c r = record {
+    index = r.index;
     after = r.after;
-    comes = λ m. let b = r.comes m in let a = c b.0 in (a.0, a.1 ∙ b.1);
-    agree = r.agree;
-    kept = kept_on k t t1 regs regs1 r.after le kept r.kept;
-    value = r.value;
+    comes = comes_on K w K1 w1 (from site r.index r.after) w2 c r.comes;
+    holds = r.holds;
   }
-  runs_after V k t t1 pc regs w pc1 regs1 w1 pc2 (Ends (Returned v) w2) le c kept r = λ m. let b = r m in let a = c b.0 in (a.0, a.1 ∙ b.1)
-  runs_after V k t t1 pc regs w pc1 regs1 w1 pc2 (Ends (Finished f) w2) le c kept r = let a = c r.0 in (a.0, a.1 ∙ r.1)
-  runs_after V k t t1 pc regs w pc1 regs1 w1 pc2 (Ends Waits w2) le c kept r = let a = c r.0 in (a.0, a.1 ∙ r.1)
-  runs_after V k t t1 pc regs w pc1 regs1 w1 pc2 (Ends Cut w2) le c kept r = let a = c r.0 in (a.0, a.1 ∙ r.1)
+  came P K w K1 w1 (Ends e w2) c r = let x = c r.0 in (x.0, x.1 ∙ r.1)
 
-  -- the end of a stretch under another name
-  pub ends_at : (V : List Value → Value → Type 0) (k t pc : ℕ) (regs : List Value) (w : Log) (pc1 pc2 : ℕ) (o : Outcome) → pc1 ≡ pc2 → Runs V k t pc regs w pc1 o → Runs V k t pc regs w pc2 o
-  ends_at V k t pc regs w pc1 pc2 o e r = subst (λ p. Runs V k t pc regs w p o) e r
+  -- the play has come to its end, and the code stands there
+  pub lands : {S A : Type 0} (P : Landing S A) (pc : ℕ) (regs : List Value) (w : Log) (s : S) (v : A) → P s v pc regs → Runs site P (from site pc regs) w (Goes s v w)
+  lands P pc regs w s v h = record { index = pc; after = regs; comes = λ m. (m, refl); holds = h }
 
-  -- the beginning of a stretch under another name
-  pub begins_at : (V : List Value → Value → Type 0) (k t pc pc' : ℕ) (regs : List Value) (w : Log) (pc1 : ℕ) (o : Outcome) → pc ≡ pc' → Runs V k t pc regs w pc1 o → Runs V k t pc' regs w pc1 o
-  begins_at V k t pc pc' regs w pc1 o e r = subst (λ p. Runs V k t p regs w pc1 o) e r
-
-  pub then_runs : (V V1 : List Value → Value → Type 0) (k t t1 pc : ℕ) (regs : List Value) (w : Log) (pc1 pc2 : ℕ) (o : Outcome) (go : State → Value → Play) → t ≤ t1 → Runs V1 k t1 pc regs w pc1 o → ((regs1 : List Value) (env : State) (v : Value) (w1 : Log) → Agree k regs1 env → Kept k t1 regs regs1 → V1 regs1 v → Runs V k t pc1 regs1 w1 pc2 (run (go env v) w1)) → Runs V k t pc regs w pc2 (then_do o (λ s v. run (go s v)))
-  then_runs V V1 k t t1 pc regs w pc1 pc2 (Goes env v w1) go le a each =
-      runs_after V k t t1 pc regs w pc1 a.after w1 pc2 (run (go env v) w1) le a.comes a.kept (each a.after env v w1 a.agree a.kept a.value)
-  then_runs V V1 k t t1 pc regs w pc1 pc2 (Ends (Returned v) w1) go le a each = a
-  then_runs V V1 k t t1 pc regs w pc1 pc2 (Ends (Finished f) w1) go le a each = a
-  then_runs V V1 k t t1 pc regs w pc1 pc2 (Ends Waits w1) go le a each = a
-  then_runs V V1 k t t1 pc regs w pc1 pc2 (Ends Cut w1) go le a each = a
+  then_runs :
+      {S A T B : Type 0} (P : Landing S A) (Q : Landing T B) (K : Bounded) (w : Log) (o : Behaviour S A) (go : S → A → Log → Behaviour T B) → Runs site P K w o →
+      ((s : S) (v : A) (pc : ℕ) (regs : List Value) (w1 : Log) → P s v pc regs → Runs site Q (from site pc regs) w1 (go s v w1)) →
+      Runs site Q K w (then_do o go)
+  then_runs P Q K w (Goes s v w1) go r each = came Q K w (from site r.index r.after) w1 (go s v w1) r.comes (each s v r.index r.after w1 r.holds)
+  then_runs P Q K w (Ends e w1) go r each = r
 
   -- one play after another
-  pub bind_runs : (V V1 : List Value → Value → Type 0) (k t t1 pc : ℕ) (regs : List Value) (w : Log) (pc1 pc2 : ℕ) (p : Play) (go : State → Value → Play) → t ≤ t1 → Runs V1 k t1 pc regs w pc1 (run p w) → ((regs1 : List Value) (env : State) (v : Value) (w1 : Log) → Agree k regs1 env → Kept k t1 regs regs1 → V1 regs1 v → Runs V k t pc1 regs1 w1 pc2 (run (go env v) w1)) → Runs V k t pc regs w pc2 (run (bind p go) w)
-  bind_runs V V1 k t t1 pc regs w pc1 pc2 p go le a each =
-      subst (Runs V k t pc regs w pc2) (sym (run_bind p go w)) (then_runs V V1 k t t1 pc regs w pc1 pc2 (run p w) go le a each)
+  pub bind_runs :
+      {S A T B : Type 0} (P : Landing S A) (Q : Landing T B) (K : Bounded) (w : Log) (p : Play S A) (go : S → A → Play T B) → Runs site P K w (run p w) →
+      ((s : S) (v : A) (pc : ℕ) (regs : List Value) (w1 : Log) → P s v pc regs → Runs site Q (from site pc regs) w1 (run (go s v) w1)) →
+      Runs site Q K w (run (bind p go) w)
+  bind_runs P Q K w p go r each = subst (Runs site Q K w) (sym (run_bind p go w)) (then_runs P Q K w (run p w) (λ s v. run (go s v)) r each)
+
+  after_phrase :
+      {S X A : Type 0} (Q : Landing S A) (K : ℕ → X → Phrase ℕ) (w : Log) (o : Behaviour (Unit {0}) X) (go : X → Log → Behaviour S A) (k : Bounded) →
+      ((m : ℕ) → run (k m) w ≡ then_do o (λ _ x. run (K m x))) →
+      ((x : X) (w1 : Log) → Runs site Q (λ m. K m x) w1 (go x w1)) → Runs site Q k w (then_do o (λ _ x. go x))
+  after_phrase Q K w (Goes s x w1) go k same each = came Q k w (λ m. K m x) w1 (go x w1) (λ m. (m, same m)) (each x w1)
+  after_phrase Q K w (Ends e w1) go k same each = (0, same 0)
+
+  -- a phrase that both sides say, whatever it asks
+  pub phrase_runs :
+      {S X A : Type 0} (Q : Landing S A) (phrase : Phrase X) (K : ℕ → X → Phrase ℕ) (go : X → Play S A) (w : Log) →
+      ((x : X) (w1 : Log) → Runs site Q (λ m. K m x) w1 (run (go x) w1)) →
+      Runs site Q (λ m. bind phrase (λ _ x. K m x)) w (run (bind phrase (λ _ x. go x)) w)
+  phrase_runs Q phrase K go w each =
+      subst (Runs site Q (λ m. bind phrase (λ _ x. K m x)) w) (sym (run_bind phrase (λ _ x. go x) w))
+      (after_phrase Q K w (run phrase w) (λ x. run (go x)) (λ m. bind phrase (λ _ x. K m x)) (λ m. run_bind phrase (λ _ x. K m x) w) each)
 
   -- ---- single instructions
 
-  pub step : (pc : ℕ) (regs : List Value) (i : Instruction) → slice_get code pc ≡ Some i → (m : ℕ) → exec main code (suc m) pc regs ≡ act main i.op i.line (exec main code m) pc regs
-  step pc regs i h m = ap (λ o. act_at main o (exec main code m) pc regs) h
+  pub step :
+      (pc : ℕ) (regs : List Value) (i : Instruction) → slice_get site.code pc ≡ Some i → (m : ℕ) →
+      from site pc regs (suc m) ≡ act site.main i.op i.line (exec site.main site.code m) pc regs
+  step pc regs i h m = ap (λ o. act_at site.main o (exec site.main site.code m) pc regs) h
 
-  -- an instruction that only writes a register
-  pub writes : (pc : ℕ) (regs : List Value) (w : Log) (i : Instruction) (d : ℕ) (v : Value) → slice_get code pc ≡ Some i → ((m : ℕ) → act main i.op i.line (exec main code m) pc regs ≡ exec main code m (pc + 1) (put_at regs d v)) → Comes pc regs w (pc + 1) (put_at regs d v) w
-  writes pc regs w i d v h op m = (suc m, ap (λ p. run p w) (step pc regs i h m ∙ op m))
+  -- what an instruction does at its index
+  abbrev pub does : ℕ → List Value → Instruction → Bounded
+  does pc regs i m = act site.main i.op i.line (exec site.main site.code m) pc regs
 
-  -- arithmetic: goes on with its result in a register, or traps
-  after_runs : (V : List Value → Value → Type 0) (k t pc d line : ℕ) (regs : List Value) (w : Log) (pc2 : ℕ) (r : Result ℕ ArithFault) (go : Value → Play) → t ≤ d → ((m : ℕ) → exec main code (suc m) pc regs ≡ after_arithmetic r line (λ v. exec main code m (pc + 1) (put_at regs d v))) → ((v : Value) → Runs V k t (pc + 1) (put_at regs d v) w pc2 (run (go v) w)) → Runs V k t pc regs w pc2 (run (after_arithmetic r line go) w)
-  after_runs V k t pc d line regs w pc2 (Ok n) go le st each =
-      runs_after V k t t pc regs w (pc + 1) (put_at regs d (integer n)) w pc2 (run (go (integer n)) w) (omega arith) (λ m. (suc m, ap (λ p. run p w) (st m))) (kept_put k t d regs (integer n) le) (each (integer n))
-  after_runs V k t pc d line regs w pc2 (Err refusal) go le st each =
-      end_runs V k t pc regs w pc2 (run (trap (reason_of refusal) line) w) (trap_ends (reason_of refusal) line w) (1, ap (λ p. run p w) (st 0))
+  pub steps : (pc : ℕ) (regs : List Value) (w : Log) (i : Instruction) → slice_get site.code pc ≡ Some i → Comes (from site pc regs) w (does pc regs i) w
+  steps pc regs w i h m = (suc m, ap (λ p. run p w) (step pc regs i h m))
 
-  pub binary_runs : (V : List Value → Value → Type 0) (k t pc d a b line : ℕ) (op : BinOp) (ty : IntType) (regs : List Value) (w : Log) (pc2 : ℕ) (x y : Value) (go : Value → Play) → t ≤ d → slice_get code pc ≡ Some (at_line line (Binary d a b (operator_number op) (type_number ty))) → value_at regs a ≡ x → value_at regs b ≡ y → ((v : Value) → Runs V k t (pc + 1) (put_at regs d v) w pc2 (run (go v) w)) → Runs V k t pc regs w pc2 (run (computed op ty x y line go) w)
-  binary_runs V k t pc d a b line op ty regs w pc2 x y go le h ex ey each =
-      after_runs V k t pc d line regs w pc2 (binary_of op ty (convert_of x.number ty) (right_operand op ty y.number)) go le (λ m. same m) each where
-        same : (m : ℕ) → exec main code (suc m) pc regs ≡ computed op ty x y line (λ v. exec main code m (pc + 1) (put_at regs d v))
-        same m =
-            let next = λ (v : Value). exec main code m (pc + 1) (put_at regs d v) in
-            step pc regs (at_line line (Binary d a b (operator_number op) (type_number ty))) h m
-            ∙ ap (λ o. computed o (type_at (type_number ty)) (value_at regs a) (value_at regs b) line next) (operator_back op)
-            ∙ ap (λ u. computed op u (value_at regs a) (value_at regs b) line next) (type_back ty)
-            ∙ ap (λ z. computed op ty z (value_at regs b) line next) ex
-            ∙ ap (λ z. computed op ty x z line next) ey
+  pub at_instruction :
+      {S A : Type 0} (P : Landing S A) (pc : ℕ) (regs : List Value) (w : Log) (i : Instruction) (o : Behaviour S A) → slice_get site.code pc ≡ Some i →
+      Runs site P (does pc regs i) w o → Runs site P (from site pc regs) w o
+  at_instruction P pc regs w i o h r = came P (from site pc regs) w (does pc regs i) w o (steps pc regs w i h) r
 
-  -- a byte put out: goes on, or traps
-  told_runs : (V : List Value → Value → Type 0) (k t pc line byte : ℕ) (regs : List Value) (w : Log) (pc2 : ℕ) (go : Play) (left : List Answer) → ((m : ℕ) → run (exec main code (suc m) pc regs) w ≡ heard (OutEvent byte) left w (λ a. run (after_out line (exec main code m (pc + 1) regs) a))) → ((w1 : Log) → Runs V k t (pc + 1) regs w1 pc2 (run go w1)) → Runs V k t pc regs w pc2 (heard (OutEvent byte) left w (λ a. run (after_out line go a)))
-  told_runs V k t pc line byte regs w pc2 go [] st each = (1, st 0)
-  told_runs V k t pc line byte regs w pc2 go (a ∷ rest) st each = fitted (fits (OutEvent byte) a) a st where
-    w1 : Log
-    w1 = noted (OutEvent byte) rest w
+  -- jumps
+  jumps_on : (pc target : ℕ) (regs : List Value) (w : Log) → pc < target → Comes (λ m. go_to (nat_lt pc target) (from site target regs m)) w (from site target regs) w
+  jumps_on pc target regs w lt m = (m, ap (λ b. run (go_to b (from site target regs m)) w) (lt-ltb pc target lt))
 
-    fitted : (b : Bool) (a : Answer) → ((m : ℕ) → run (exec main code (suc m) pc regs) w ≡ heard_if b w (run (after_out line (exec main code m (pc + 1) regs) a) w1)) → Runs V k t pc regs w pc2 (heard_if b w (run (after_out line go a) w1))
-    fitted false a st = (1, st 0)
-    fitted true Done st = runs_after V k t t pc regs w (pc + 1) regs w1 pc2 (run go w1) (omega arith) (λ m. (suc m, st m)) (kept_self k t regs) (each w1)
-    fitted true (Refused r) st = end_runs V k t pc regs w pc2 (run (trap r line) w1) (trap_ends r line w1) (1, st 0)
-    fitted true Granted st = (1, st 0)
-    fitted true (Number n) st = (1, st 0)
-    fitted true (Found f) st = (1, st 0)
-    fitted true (Opened a h) st = (1, st 0)
-    fitted true (Made o a) st = (1, st 0)
-    fitted true Absent st = (1, st 0)
-    fitted true End st = (1, st 0)
+  pub jump_back :
+      (line pc target : ℕ) (regs : List Value) (w : Log) → target ≤ pc → slice_get site.code pc ≡ Some (at_line line (Jump target)) →
+      Comes (from site pc regs) w (from site target regs) (with_jump w)
+  jump_back line pc target regs w le h m =
+      (suc m, ap (λ p. run p w) (step pc regs (at_line line (Jump target)) h m ∙ ap (λ b. go_to b (from site target regs m)) (le-ltb pc target le)))
 
-  pub out_runs : (V : List Value → Value → Type 0) (k t pc line a : ℕ) (regs : List Value) (w : Log) (pc2 : ℕ) (v : Value) (go : Play) → slice_get code pc ≡ Some (at_line line (Out a)) → value_at regs a ≡ v → ((w1 : Log) → Runs V k t (pc + 1) regs w1 pc2 (run go w1)) → Runs V k t pc regs w pc2 (run (put_out v line go) w)
-  out_runs V k t pc line a regs w pc2 v go h e each =
-      told_runs V k t pc line (v.number % 256) regs w pc2 go w.answers (λ m. ap (λ p. run p w) (step pc regs (at_line line (Out a)) h m ∙ ap (λ z. put_out z line (exec main code m (pc + 1) regs)) e)) each
+  -- a jump where a register is 0
+  pub branches :
+      {S A : Type 0} (Q : Landing S A) (line t pc target : ℕ) (v : Value) (regs : List Value) (w : Log) (a b : Play S A) →
+      slice_get site.code pc ≡ Some (at_line line (JumpZero t target)) → value_at regs t ≡ v → pc < target →
+      Runs site Q (from site target regs) w (run a w) → Runs site Q (from site (pc + 1) regs) w (run b w) →
+      Runs site Q (from site pc regs) w (run (if_zero v.number a b) w)
+  branches {S} {A} Q line t pc target v regs w a b h value lt r s =
+      at_instruction Q pc regs w (at_line line (JumpZero t target)) (run (if_zero v.number a b) w) h
+      (subst (λ (x : Value). Runs site Q (jumps x.number) w (run (if_zero v.number a b) w)) (sym value) (chosen v.number)) where
+        jumps : ℕ → Bounded
+        jumps n m = if_zero n (go_to (nat_lt pc target) (from site target regs m)) (from site (pc + 1) regs m)
 
-  -- a function's return
-  pub return_runs : (V : List Value → Value → Type 0) (k t pc line a : ℕ) (regs : List Value) (w : Log) (pc2 : ℕ) (v : Value) → slice_get code pc ≡ Some (at_line line (Return a)) → value_at regs a ≡ v → Runs V k t pc regs w pc2 (run (Stops (Returned v)) w)
-  return_runs V k t pc line a regs w pc2 v h e m = (1, ap (λ p. run p w) (step pc regs (at_line line (Return a)) h 0 ∙ ap (λ z. leave main z) e))
+        chosen : (n : ℕ) → Runs site Q (jumps n) w (run (if_zero n a b) w)
+        chosen zero = came Q (λ m. go_to (nat_lt pc target) (from site target regs m)) w (from site target regs) w (run a w) (jumps_on pc target regs w lt) r
+        chosen (suc n) = s

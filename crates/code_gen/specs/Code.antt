@@ -41,13 +41,13 @@ abbrev pub zeros_code : List LocalDef → List Instruction
 zeros_code [] = []
 zeros_code (d ∷ locals) = at_line d.line (Const d.local 0) ∷ zeros_code locals
 
--- a loop at a place: its test, a jump out, its body, and a jump back to the test
+-- a loop at an index: its test, a jump out, its body, and a jump back to the test
 abbrev pub while_code : ℕ → ℕ → ℕ → List Instruction → List Instruction → List Instruction
 while_code line t at test body =
     test ++ (at_line line (JumpZero t (at + length test + 1 + length body + 1)) ∷ (body ++ at_line line (Jump at) ∷ []))
 
 abbrev mutual
-  -- a statement at a place, with t as the first temporary
+  -- a statement at an index, with t as the first temporary
   pub stmt_code : Stmt → ℕ → ℕ → List Instruction
   stmt_code Empty t at = []
   stmt_code (Assign line local value) t at = expr_code value t ++ at_line line (Move local t) ∷ []
@@ -60,6 +60,10 @@ abbrev mutual
   pub stmts_code : {m : _} → Row_of-Stmt m → ℕ → ℕ → List Instruction
   stmts_code end_of-Stmt t at = []
   stmts_code (more_of-Stmt s rest) t at = stmt_code s t at ++ stmts_code rest t (at + length (stmt_code s t at))
+
+-- these instructions, and then a statement's
+abbrev pub with_stmt : List Instruction → Stmt → ℕ → List Instruction
+with_stmt code s t = code ++ stmt_code s t (length code)
 
 -- a function's body, and the return of 0 at its end
 abbrev pub body_code : FunctionDef → List Instruction

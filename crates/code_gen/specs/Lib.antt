@@ -1,3 +1,4 @@
 pub mod Code
 pub mod Correct
 pub mod Lists
+pub mod Worked

@@ -4,7 +4,8 @@ ghost use Rattle.std.specs.Prelude.{◌≡◌, ◌+◌, ◌<◌, [], ◌∷◌, 
 ghost use Rattle.c_tree.specs.Fits.{FunctionFits};
 ghost use Rattle.c_tree.specs.Temps.{temps_of, stmt_temps};
 ghost use Rattle.filc_code.specs.Plain.{plain_function};
-ghost use Rattle.code_gen.specs.Code.{at_line, expr_code, zeros_code, stmt_code, function_code};
+ghost use Rattle.filc_code.specs.WellFormed.{register_count};
+ghost use Rattle.code_gen.specs.Code.{at_line, expr_code, zeros_code, with_stmt, function_code};
 
 use c_tree::{Expr, FunctionDef, LocalDef, Stmt};
 use filc_code::{CodeFunction, Instruction, Op, operator_number, type_number};
@@ -33,19 +34,19 @@ fn put(code: &mut Vec<Instruction>, line: u32, op: Op) -> Result<(), NoMemory>
     Ok(())
 }
 
-/// The place of the next instruction. More instructions than a jump can name are too much memory.
-fn next_place(code: &Vec<Instruction>) -> Result<u32, NoMemory>
-    ensures { IfOk result (λ place. place ≡ length code.now.items) }
+/// The index of the next instruction. More instructions than a jump can name are too much memory.
+fn next_index(code: &Vec<Instruction>) -> Result<u32, NoMemory>
+    ensures { IfOk result (λ index. index ≡ length code.now.items) }
 {
     match u32::try_from(code.len()) {
-        Ok(place) => Ok(place),
+        Ok(index) => Ok(index),
         Err(_) => Err(NoMemory),
     }
 }
 
 /// An expression, with its value in the register t.
 fn emit_expr(code: &mut Vec<Instruction>, expr: &Expr, t: u32) -> Result<(), NoMemory>
-    requires { t + temps_of expr.now < 256 }
+    requires { t + temps_of expr.now < register_count }
     ensures { OnOk result (code.new.items ≡ code.old.items ++ expr_code expr.now t) }
 {
     match expr {
@@ -90,8 +91,8 @@ fn emit_zeros(code: &mut Vec<Instruction>, locals: &[LocalDef]) -> Result<(), No
 
 /// A statement, with t as the first temporary.
 fn emit_stmt(code: &mut Vec<Instruction>, stmt: &Stmt, t: u32) -> Result<(), NoMemory>
-    requires { t + stmt_temps stmt.now < 256 }
-    ensures { OnOk result (code.new.items ≡ code.old.items ++ stmt_code stmt.now t (length code.old.items)) }
+    requires { t + stmt_temps stmt.now < register_count }
+    ensures { OnOk result (code.new.items ≡ with_stmt code.old.items stmt.now t) }
 {
     match stmt {
         Stmt::Empty => Ok(()),
@@ -100,13 +101,13 @@ fn emit_stmt(code: &mut Vec<Instruction>, stmt: &Stmt, t: u32) -> Result<(), NoM
             put(code, *line, Op::Move(*local, t))
         }
         Stmt::While { line, test, body } => {
-            let start = next_place(code)?;
+            let start = next_index(code)?;
             emit_expr(code, test, t)?;
             let exit = code.len();
             put(code, *line, Op::JumpZero(t, 0))?;
             emit_stmt(code, body.get(), t)?;
             put(code, *line, Op::Jump(start))?;
-            let end = next_place(code)?;
+            let end = next_index(code)?;
             code[exit] = instruction(*line, Op::JumpZero(t, end));
             Ok(())
         }

@@ -10,9 +10,10 @@
 
 ghost use Rattle.std.specs.Prelude.{◌≡◌, IfOk};
 ghost use Rattle.code_gen.specs.Code.{program_code};
-ghost use Rattle.code_gen.specs.Correct.{CodePlays, Plays};
+ghost use Rattle.code_gen.specs.Correct.{Plays};
 
 mod emit;
+pub mod laws;
 
 use c_tree::Program;
 use filc_code::Code;
@@ -30,8 +31,3 @@ pub fn compile(alloc: Global, program: &Program) -> Result<Code, NoMemory>
     }
     Ok(Code::new(functions, program.main()))
 }
-
-/// The law behind `compile`: the code of every program plays it.
-pub fn code_plays()
-    ensures { CodePlays }
-{}

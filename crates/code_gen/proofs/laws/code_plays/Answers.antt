@@ -1,5 +1,5 @@
 use Rattle.code_gen.proofs.Program.{code_plays}
-use Rattle.code_gen.proofs.code_plays.Goals as goal
+use Rattle.code_gen.proofs.laws.code_plays.Goals as goal
 
 pub returns : goal.returns
 returns c = code_plays

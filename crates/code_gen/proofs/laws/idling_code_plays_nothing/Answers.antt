@@ -1,0 +1,8 @@
+use Rattle.code_gen.proofs.Idling.{endless_plays_nothing, one_jump_more}
+use Rattle.code_gen.proofs.laws.idling_code_plays_nothing.Goals as goal
+
+pub returns-clause-endless : goal.returns-clause-endless
+returns-clause-endless c = endless_plays_nothing
+
+pub returns-clause-once : goal.returns-clause-once
+returns-clause-once c = one_jump_more
