@@ -2,7 +2,7 @@
 --
 -- A thread stands at an index of its function's code and has registers. Each instruction asks what it asks, writes its
 -- register, and goes on at the next index, or where it jumps. A jump that doesn't lead forward is marked.
-use Rattle.std.specs.Prelude.{ℕ, zero, suc, ◌+◌, List, Option, Some, None, Bool, true, false, nat_lt, slice_get, replicate, ◌==◌}
+use Rattle.std.specs.Prelude.{ℕ, zero, suc, ◌+◌, ◌*◌, List, Option, Some, None, Bool, true, false, nat_lt, slice_get, replicate, ◌==◌}
 use Rattle.filc_code.specs.declared.op.Instruction.{Instruction}
 use Rattle.filc_code.specs.declared.op.Op.{Op}
 use Rattle.filc_code.specs.declared.op.Op.TheVariants.{Const, Move, Binary, Jump, JumpZero, Return, Out, Exit}
@@ -57,6 +57,11 @@ first_registers = replicate register_count zero_value
 abbrev pub exec_called : Bool → Option PlainFunction → ℕ → Phrase ℕ
 exec_called main None m = Stops Waits
 exec_called main (Some f) m = exec main f.instructions m 0 first_registers
+
+-- where the machine that carries out code has an object, whose number there is the index of its first word. No instruction
+-- of today asks for it
+abbrev pub place_address : ℕ → ℕ
+place_address place = 65536 + 8 * place
 
 -- the play of a thread's code, of at most so many instructions; it gives the thread's result
 abbrev pub exec_thread : ℕ → PlainCode → Start → Phrase ℕ

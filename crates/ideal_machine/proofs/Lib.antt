@@ -1,4 +1,5 @@
 pub mod Runs
 pub mod Cuts
 pub mod Replies
+pub mod Names
 pub mod Values

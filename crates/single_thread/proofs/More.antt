@@ -1,84 +1,97 @@
 -- A run of more instructions goes on from one of fewer, and makes nothing once the program has ended.
-use Rattle.std.proofs.Common.{◌≡◌, ◌+◌, [], ◌∷◌, ◌++◌, true, false, refl, sym, ap, subst, arith}
-use Rattle.std.specs.Prelude.{IsSome}
-use Rattle.ideal_machine.specs.declared.value.Half.TheVariants.{Nothing}
+use Rattle.std.proofs.Common.{◌≡◌, ℕ, ◌+◌, [], ◌∷◌, ◌++◌, length, Bool, true, false, Option, Some, None, refl, sym, ap, subst, arith}
+use Rattle.std.specs.Prelude.{IsSome, nat_lt}
+use Rattle.filc_num.specs.declared.reason.Reason.{Reason}
+use Rattle.filc_num.specs.declared.reason.Reason.TheVariants.{OutputLimit}
 use Rattle.ideal_machine.specs.declared.event.Event.{Event}
-use Rattle.ideal_machine.specs.declared.event.Event.TheVariants.{Out, Exit, Trap, Begin}
+use Rattle.ideal_machine.specs.declared.event.Event.TheVariants.{Out, Exit, Trap}
 use Rattle.ideal_machine.specs.declared.event.Answer.{Answer}
-use Rattle.ideal_machine.specs.declared.event.Answer.TheVariants.{Done}
-use Rattle.ideal_machine.specs.Memory.{Memory, Limits}
-use Rattle.ideal_machine.specs.Play.{Play, Gives, Stops, Asks, Turn, Call, Returned, Finished, Waits, Cut}
-use Rattle.ideal_machine.proofs.Laws.{IsCutOf}
-use Rattle.tree_play.specs.Legal.{History, finish_of}
+use Rattle.ideal_machine.specs.declared.event.Answer.TheVariants.{Refused, Done}
+use Rattle.ideal_machine.specs.Memory.{Memory, World}
+use Rattle.ideal_machine.specs.Queries.{Query, Makes, Reply, reply_to, event_of, wish_of}
+use Rattle.ideal_machine.specs.Play.{Gives, Stops, Asks, Jump, Call, Finished, Waits, Cut, by_reply}
+use Rattle.ideal_machine.specs.Phrases.{Phrase}
+use Rattle.ideal_machine.proofs.Cuts.{IsCutOf}
+use Rattle.tree_play.specs.Legal.{History}
+use Rattle.tree_play.specs.Observable.{finish_of}
 use Rattle.code_thread.specs.Exec.{exec_thread}
 use Rattle.code_thread.proofs.Cuts.{thread_cut}
-use Rattle.single_thread.specs.Alone.{answer_of, memory_after, entry_of, made_by, main_start, begun_memory}
-use Rattle.single_thread.specs.Laws.{RunsGoOn, RunsEnd}
+use Rattle.single_thread.specs.Alone.{answer_of, entry_of, memory_with, made_by, main_start, main_begin, memory_after_begin}
+use Rattle.single_thread.specs.Runs.{RunsGoOn, RunsEnd}
 use Rattle.single_thread.proofs.Lone.{IsOver, IsLone, thread_lone}
+use Rattle.single_thread.proofs.Gained.{by_room, out_made}
 
--- the history of q is that of p and more
-abbrev GoesOn : Limits → Play → Memory → Play → Type 0
-GoesOn limits p memory q = (more : History) × (made_by limits q memory ≡ made_by limits p memory ++ more)
+module _ (world : World) where
+  -- the second history is the first and more
+  abbrev GoesOn : History → History → Type 0
+  GoesOn made made' = (more : History) × (made' ≡ made ++ more)
 
-goes_on : (limits : Limits) (p q : Play) (memory : Memory) → IsCutOf p q → GoesOn limits p memory q
-goes_on limits (Gives s v) q memory h = subst (GoesOn limits (Gives s v) memory) (sym h) ([], refl)
-goes_on limits (Stops Cut) q memory h = (made_by limits q memory, refl)
-goes_on limits (Stops (Returned v)) q memory h = subst (GoesOn limits (Stops (Returned v)) memory) (sym h) ([], refl)
-goes_on limits (Stops (Finished f)) q memory h = subst (GoesOn limits (Stops (Finished f)) memory) (sym h) ([], refl)
-goes_on limits (Stops Waits) q memory h = subst (GoesOn limits (Stops Waits) memory) (sym h) ([], refl)
-goes_on limits (Asks e next) q memory h =
-    let a = answer_of limits memory e in
-    let r = goes_on limits (next a) (h.0 a) (memory_after memory e a) (h.2 a) in
-    subst (GoesOn limits (Asks e next) memory) (sym h.1) (r.0, ap (λ l. entry_of e a ∷ l) r.1)
-goes_on limits (Turn p) q memory h =
-    subst (GoesOn limits (Turn p) memory) (sym h.1) (goes_on limits p h.0 memory h.2)
-goes_on limits (Call p) q memory h =
-    subst (GoesOn limits (Call p) memory) (sym h.1) (goes_on limits p h.0 memory h.2)
+  asks_on :
+      (q : Query) (next next' : Reply q → Phrase ℕ) (memory : Memory) (answer : Answer) (o : Option (Reply q)) →
+      ((r : Reply q) → GoesOn (made_by world (next r) (memory_with memory (event_of q r) answer)) (made_by world (next' r) (memory_with memory (event_of q r) answer))) →
+      GoesOn (by_reply o [] (λ r. entry_of (event_of q r) answer ∷ made_by world (next r) (memory_with memory (event_of q r) answer)))
+      (by_reply o [] (λ r. entry_of (event_of q r) answer ∷ made_by world (next' r) (memory_with memory (event_of q r) answer)))
+  asks_on q next next' memory answer None each = ([], refl)
+  asks_on q next next' memory answer (Some r) each = let more = each r in (more.0, ap (λ l. entry_of (event_of q r) answer ∷ l) more.1)
 
--- a play that is over is no cut
-over_same : (p q : Play) → IsOver p → IsCutOf p q → q ≡ p
-over_same (Stops (Finished f)) q over h = h
-over_same (Stops (Returned v)) q over h = absurd over
-over_same (Stops Waits) q over h = absurd over
-over_same (Stops Cut) q over h = absurd over
-over_same (Gives s v) q over h = absurd over
-over_same (Asks e next) q over h = absurd over
-over_same (Turn p) q over h = absurd over
-over_same (Call p) q over h = absurd over
+  goes_on : (p p' : Phrase ℕ) (memory : Memory) → IsCutOf p p' → GoesOn (made_by world p memory) (made_by world p' memory)
+  goes_on (Gives s v) p' memory h = ([], ap (λ q. made_by world q memory) h)
+  goes_on (Stops Cut) p' memory h = (made_by world p' memory, refl)
+  goes_on (Stops (Finished f)) p' memory h = ([], ap (λ q. made_by world q memory) h)
+  goes_on (Stops Waits) p' memory h = ([], ap (λ q. made_by world q memory) h)
+  goes_on (Asks q next) p' memory h =
+      let answer = answer_of world memory (wish_of q) in
+      subst (λ x. GoesOn (made_by world (Asks q next) memory) (made_by world x memory)) (sym h.1)
+      (asks_on q next h.0 memory answer (reply_to q answer) (λ r. goes_on (next r) (h.0 r) (memory_with memory (event_of q r) answer) (h.2 r)))
+  goes_on (Jump p) p' memory h =
+      subst (λ x. GoesOn (made_by world p memory) (made_by world x memory)) (sym h.1) (goes_on p h.0 memory h.2)
+  goes_on (Call p) p' memory h =
+      subst (λ x. GoesOn (made_by world p memory) (made_by world x memory)) (sym h.1) (goes_on p h.0 memory h.2)
 
-done_same : (limits : Limits) (e : Event) (next next' : Answer → Play) (memory : Memory) → answer_of limits memory e ≡ Done → IsOver (next Done) → IsCutOf (next Done) (next' Done) → made_by limits (Asks e next') memory ≡ made_by limits (Asks e next) memory
-done_same limits e next next' memory done over h =
-    let a = answer_of limits memory e in
-    let same = subst (λ a. next' a ≡ next a) (sym done) (over_same (next Done) (next' Done) over h) in
-    ap (λ p. entry_of e a ∷ made_by limits p (memory_after memory e a)) same
+  -- a play that is over is no cut
+  over_same : (p p' : Phrase ℕ) → IsOver p → IsCutOf p p' → p' ≡ p
+  over_same (Stops (Finished f)) p' over h = h
+  over_same p p' over h = absurd over
 
-ended : (limits : Limits) (p q : Play) → IsLone p → (memory : Memory) → IsCutOf p q → IsSome (finish_of (made_by limits p memory)) → made_by limits q memory ≡ made_by limits p memory
-ended limits (Gives s v) q lone memory h some = let no : false ≡ true = some in cc
-ended limits (Stops e) q lone memory h some = let no : false ≡ true = some in cc
-ended limits (Asks (Out byte) next) q lone memory h some =
-    let a = answer_of limits memory (Out byte) in
-    subst (λ q. made_by limits q memory ≡ made_by limits (Asks (Out byte) next) memory) (sym h.1)
-    (ap (λ l. entry_of (Out byte) a ∷ l) (ended limits (next a) (h.0 a) (lone a) (memory_after memory (Out byte) a) (h.2 a) some))
-ended limits (Asks (Exit status) next) q lone memory h some =
-    subst (λ q. made_by limits q memory ≡ made_by limits (Asks (Exit status) next) memory) (sym h.1)
-    (done_same limits (Exit status) next h.0 memory refl (lone Done) (h.2 Done))
-ended limits (Asks (Trap reason line) next) q lone memory h some =
-    subst (λ q. made_by limits q memory ≡ made_by limits (Asks (Trap reason line) next) memory) (sym h.1)
-    (done_same limits (Trap reason line) next h.0 memory refl (lone Done) (h.2 Done))
-ended limits (Asks e next) q lone memory h some = absurd lone
-ended limits (Turn p) q lone memory h some =
-    subst (λ q. made_by limits q memory ≡ made_by limits p memory) (sym h.1) (ended limits p h.0 lone memory h.2 some)
-ended limits (Call p) q lone memory h some =
-    subst (λ q. made_by limits q memory ≡ made_by limits p memory) (sym h.1) (ended limits p h.0 lone memory h.2 some)
+  -- an event that is done, and ends the program
+  done_same :
+      (e : Event) (next next' : Phrase ℕ) (memory : Memory) → IsOver next → IsCutOf next next' →
+      entry_of e Done ∷ made_by world next' (memory_with memory e Done) ≡ entry_of e Done ∷ made_by world next (memory_with memory e Done)
+  done_same e next next' memory over h = ap (λ p. entry_of e Done ∷ made_by world p (memory_with memory e Done)) (over_same next next' over h)
+
+  -- once the program has ended, a play that goes on makes the same
+  abbrev EndsSo : History → History → Type 0
+  EndsSo made made' = IsSome (finish_of made) → made' ≡ made
+
+  end_same : (p p' : Phrase ℕ) → IsLone p → (memory : Memory) → IsCutOf p p' → EndsSo (made_by world p memory) (made_by world p' memory)
+  end_same (Gives s v) p' lone memory h some = let no : false ≡ true = some in cc
+  end_same (Stops e) p' lone memory h some = let no : false ≡ true = some in cc
+  end_same (Asks (Makes (Out byte)) next) p' lone memory h some =
+      subst (λ x. EndsSo (made_by world (Asks (Makes (Out byte)) next) memory) (made_by world x memory)) (sym h.1)
+      (by_room (λ room. EndsSo (out_made world byte next memory room) (out_made world byte h.0 memory room))
+      (λ some. ap (λ l. entry_of (Out byte) Done ∷ l) (end_same (next None) (h.0 None) (lone None) _ (h.2 None) some))
+      (λ some. ap (λ l. entry_of (Out byte) (Refused OutputLimit) ∷ l) (end_same (next (Some _)) (h.0 (Some _)) (lone (Some _)) _ (h.2 (Some _)) some))
+      (nat_lt (length memory.output) world.output)) some
+  end_same (Asks (Makes (Exit status)) next) p' lone memory h some =
+      subst (λ x. made_by world x memory ≡ made_by world (Asks (Makes (Exit status)) next) memory) (sym h.1)
+      (done_same (Exit status) (next tt) (h.0 tt) memory lone (h.2 tt))
+  end_same (Asks (Makes (Trap reason line)) next) p' lone memory h some =
+      subst (λ x. made_by world x memory ≡ made_by world (Asks (Makes (Trap reason line)) next) memory) (sym h.1)
+      (done_same (Trap reason line) (next tt) (h.0 tt) memory lone (h.2 tt))
+  end_same (Asks q next) p' lone memory h some = absurd lone
+  end_same (Jump p) p' lone memory h some =
+      subst (λ x. made_by world x memory ≡ made_by world p memory) (sym h.1) (end_same p h.0 lone memory h.2 some)
+  end_same (Call p) p' lone memory h some =
+      subst (λ x. made_by world x memory ≡ made_by world p memory) (sym h.1) (end_same p h.0 lone memory h.2 some)
 
 pub runs_go_on : RunsGoOn
-runs_go_on limits code m k =
+runs_go_on world code m k =
     let start = main_start code in
-    let r = goes_on limits (exec_thread m code start) (exec_thread (m + k) code start) (begun_memory limits code) (thread_cut code start m (m + k) (omega arith)) in
-    (r.0, ap (λ l. entry_of (Begin code.main 0 Nothing) Done ∷ l) r.1)
+    let r = goes_on world (exec_thread m code start) (exec_thread (m + k) code start) (memory_after_begin world code) (thread_cut code start m (m + k) (omega arith)) in
+    (r.0, ap (λ l. main_begin code ∷ l) r.1)
 
 pub runs_end : RunsEnd
-runs_end limits code m k some =
+runs_end world code m k some =
     let start = main_start code in
-    ap (λ l. entry_of (Begin code.main 0 Nothing) Done ∷ l)
-    (ended limits (exec_thread m code start) (exec_thread (m + k) code start) (thread_lone m code) (begun_memory limits code) (thread_cut code start m (m + k) (omega arith)) some)
+    ap (λ l. main_begin code ∷ l)
+    (end_same world (exec_thread m code start) (exec_thread (m + k) code start) (thread_lone m code) (memory_after_begin world code) (thread_cut code start m (m + k) (omega arith)) some)

@@ -3,20 +3,22 @@
 -- Where no other thread runs, the abstract machine has one answer to each event. So what happens is a function of
 -- the code and of how many instructions are carried out: `main` begins, and then comes what its play asks, each
 -- event with the machine's answer.
-use Rattle.std.specs.Prelude.{ℕ, ◌+◌, [], ◌∷◌, length, Bool, true, false, nat_lt}
+use Rattle.std.specs.Prelude.{ℕ, ◌+◌, [], ◌∷◌, length, Bool, true, false, Option, Some, None, nat_lt}
 use Rattle.filc_num.specs.declared.reason.Reason.TheVariants.{OutputLimit}
 use Rattle.filc_code.specs.Plain.{PlainCode}
 use Rattle.ideal_machine.specs.declared.value.Half.TheVariants.{Nothing}
 use Rattle.ideal_machine.specs.declared.event.Event.{Event}
-use Rattle.ideal_machine.specs.declared.event.Event.TheVariants.{Out, Begin, Exit, Trap}
+use Rattle.ideal_machine.specs.declared.event.Event.TheVariants.{Out, Begin}
 use Rattle.ideal_machine.specs.declared.event.Answer.{Answer}
 use Rattle.ideal_machine.specs.declared.event.Answer.TheVariants.{Refused, Done}
-use Rattle.ideal_machine.specs.Memory.{Memory, Limits, Running, Exited, Trapped, first_memory}
-use Rattle.ideal_machine.specs.Allows.{with_state, with_byte, with_finish}
+use Rattle.ideal_machine.specs.Memory.{Memory, World, default_world, first_memory}
 use Rattle.ideal_machine.specs.Values.{zero_value}
-use Rattle.ideal_machine.specs.Play.{Ending, Returned, Play, Gives, Stops, Asks, Turn, Call, Start}
-use Rattle.tree_play.specs.Legal.{Entry, History}
-use Rattle.code_thread.specs.Exec.{exec_thread}
+use Rattle.ideal_machine.specs.Queries.{reply_to, event_of, wish_of}
+use Rattle.ideal_machine.specs.Play.{Stop, Waits, Gives, Stops, Asks, Jump, Call, by_reply}
+use Rattle.ideal_machine.specs.Phrases.{Start, Phrase}
+use Rattle.tree_play.specs.Legal.{Entry, History, memory_after}
+use Rattle.tree_play.specs.Observable.{Observable, observable_of}
+use Rattle.code_thread.specs.Exec.{place_address, exec_thread}
 
 -- ---- the machine's answers
 
@@ -26,16 +28,9 @@ room_answer true = Done
 room_answer false = Refused OutputLimit
 
 -- the answer to an event of a running thread
-abbrev pub answer_of : Limits → Memory → Event → Answer
-answer_of limits memory (Out byte) = room_answer (nat_lt (length memory.output) limits.output)
-answer_of limits memory event = Done
-
--- the memory after an event and its answer
-abbrev pub memory_after : Memory → Event → Answer → Memory
-memory_after memory (Out byte) Done = with_byte memory byte
-memory_after memory (Exit status) Done = with_finish memory (Exited status)
-memory_after memory (Trap reason line) Done = with_finish memory (Trapped reason line)
-memory_after memory event answer = memory
+abbrev pub answer_of : World → Memory → Event → Answer
+answer_of world memory (Out byte) = room_answer (nat_lt (length memory.output) world.output)
+answer_of world memory event = Done
 
 -- ---- a play that runs alone
 
@@ -43,53 +38,78 @@ memory_after memory event answer = memory
 abbrev pub entry_of : Event → Answer → Entry
 entry_of event answer = record { actor = 0; event = event; answer = answer }
 
+-- the memory after such an event
+abbrev pub memory_with : Memory → Event → Answer → Memory
+memory_with memory event answer = memory_after memory (entry_of event answer)
+
 -- what a play makes from a memory on
-abbrev pub made_by : Limits → Play → Memory → History
-made_by limits (Gives state value) memory = []
-made_by limits (Stops ending) memory = []
-made_by limits (Asks event next) memory =
-    let answer = answer_of limits memory event in
-    entry_of event answer ∷ made_by limits (next answer) (memory_after memory event answer)
-made_by limits (Turn next) memory = made_by limits next memory
-made_by limits (Call next) memory = made_by limits next memory
+abbrev pub made_by : World → Phrase ℕ → Memory → History
+made_by world (Gives state result) memory = []
+made_by world (Stops stop) memory = []
+made_by world (Asks query next) memory =
+    let answer = answer_of world memory (wish_of query) in
+    by_reply (reply_to query answer) []
+    (λ reply.
+    entry_of (event_of query reply) answer
+    ∷ made_by world (next reply) (memory_with memory (event_of query reply) answer))
+made_by world (Jump next) memory = made_by world next memory
+made_by world (Call next) memory = made_by world next memory
 
 -- how many backward jumps it passes there
-abbrev pub jumps_by : Limits → Play → Memory → ℕ
-jumps_by limits (Gives state value) memory = 0
-jumps_by limits (Stops ending) memory = 0
-jumps_by limits (Asks event next) memory =
-    let answer = answer_of limits memory event in jumps_by limits (next answer) (memory_after memory event answer)
-jumps_by limits (Turn next) memory = 1 + jumps_by limits next memory
-jumps_by limits (Call next) memory = jumps_by limits next memory
+abbrev pub jumps_by : World → Phrase ℕ → Memory → ℕ
+jumps_by world (Gives state result) memory = 0
+jumps_by world (Stops stop) memory = 0
+jumps_by world (Asks query next) memory =
+    let answer = answer_of world memory (wish_of query) in
+    by_reply (reply_to query answer) 0
+    (λ reply. jumps_by world (next reply) (memory_with memory (event_of query reply) answer))
+jumps_by world (Jump next) memory = 1 + jumps_by world next memory
+jumps_by world (Call next) memory = jumps_by world next memory
 
--- how it ends there
-abbrev pub ending_by : Limits → Play → Memory → Ending
-ending_by limits (Gives state value) memory = Returned value
-ending_by limits (Stops ending) memory = ending
-ending_by limits (Asks event next) memory =
-    let answer = answer_of limits memory event in ending_by limits (next answer) (memory_after memory event answer)
-ending_by limits (Turn next) memory = ending_by limits next memory
-ending_by limits (Call next) memory = ending_by limits next memory
+-- why it stops there; a thread that gives its result has none
+abbrev pub stop_by : World → Phrase ℕ → Memory → Option Stop
+stop_by world (Gives state result) memory = None
+stop_by world (Stops stop) memory = Some stop
+stop_by world (Asks query next) memory =
+    let answer = answer_of world memory (wish_of query) in
+    by_reply (reply_to query answer) (Some Waits)
+    (λ reply. stop_by world (next reply) (memory_with memory (event_of query reply) answer))
+stop_by world (Jump next) memory = stop_by world next memory
+stop_by world (Call next) memory = stop_by world next memory
 
 -- ---- a code that runs alone
 
 -- what the thread of `main` is begun with
 abbrev pub main_start : PlainCode → Start
-main_start code = record { id = 0; function = code.main; argument = zero_value }
+main_start code = record { id = 0; function = code.main; argument = zero_value; base = place_address }
 
--- the memory once `main` has begun
-abbrev pub begun_memory : Limits → PlainCode → Memory
-begun_memory limits code = with_state (first_memory limits code.main) 0 Running
+-- the beginning of `main`
+abbrev pub main_begin : PlainCode → Entry
+main_begin code = entry_of (Begin code.main 0 Nothing) Done
+
+-- the memory after that
+abbrev pub memory_after_begin : World → PlainCode → Memory
+memory_after_begin world code = memory_after (first_memory world code.main) (main_begin code)
 
 -- the history of a run: the beginning of `main`, then what at most m instructions make
-abbrev pub history_of_run : Limits → ℕ → PlainCode → History
-history_of_run limits m code =
-    entry_of (Begin code.main 0 Nothing) Done ∷ made_by limits (exec_thread m code (main_start code)) (begun_memory limits code)
+abbrev pub history_of_run : World → ℕ → PlainCode → History
+history_of_run world m code =
+    main_begin code ∷ made_by world (exec_thread m code (main_start code)) (memory_after_begin world code)
 
 -- the backward jumps of a run of at most m instructions
-abbrev pub jumps_of_run : Limits → ℕ → PlainCode → ℕ
-jumps_of_run limits m code = jumps_by limits (exec_thread m code (main_start code)) (begun_memory limits code)
+abbrev pub jumps_of_run : World → ℕ → PlainCode → ℕ
+jumps_of_run world m code = jumps_by world (exec_thread m code (main_start code)) (memory_after_begin world code)
 
--- how a run of at most m instructions ends: with the program, or cut after these
-abbrev pub ending_of_run : Limits → ℕ → PlainCode → Ending
-ending_of_run limits m code = ending_by limits (exec_thread m code (main_start code)) (begun_memory limits code)
+-- why a run of at most m instructions stops: with the program, or cut after these
+abbrev pub stop_of_run : World → ℕ → PlainCode → Option Stop
+stop_of_run world m code = stop_by world (exec_thread m code (main_start code)) (memory_after_begin world code)
+
+-- ---- as the runner makes it
+
+-- the world of a run that reads no input
+abbrev pub run_world : World
+run_world = default_world []
+
+-- what the outside sees of a run of at most m instructions
+abbrev pub observable_of_run : ℕ → PlainCode → Observable
+observable_of_run m code = observable_of (history_of_run run_world m code)

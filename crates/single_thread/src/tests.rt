@@ -7,6 +7,7 @@ use super::*;
 use code_thread::CodeThread;
 use filc_code::{Code, CodeFunction, Instruction, Op};
 use filc_num::Reason;
+use ideal_machine::Finish;
 use std::alloc::Global;
 use std::test::Fail;
 
@@ -70,23 +71,24 @@ fn runs_end_at_their_turn(rt: HostRuntime) -> Result<(), Fail> {
     let letters = letters(alloc)?;
     let division = division(alloc)?;
     let endless = endless(alloc)?;
-    let divided = RunEnd::Trapped(Reason::Divide, 7);
-    let full = RunEnd::Trapped(Reason::OutputLimit, 7);
+    let divided = Some(Finish::Trapped(Reason::Divide, 7));
+    let full = Some(Finish::Trapped(Reason::OutputLimit, 7));
+    let status_3 = Some(Finish::Exited(3));
     let mut thread = CodeThread::new(alloc)?;
     for (name, code, turns, end, bytes) in [
-        ("no turn", &letters, 0, RunEnd::Spent, 0),
-        ("before the first byte", &letters, 1, RunEnd::Spent, 0),
-        ("after the first byte", &letters, 3, RunEnd::Spent, 1),
-        ("before the return", &letters, 5, RunEnd::Spent, 2),
-        ("the return", &letters, 6, RunEnd::Exited(3), 2),
-        ("more turns than needed", &letters, 9, RunEnd::Exited(3), 2),
-        ("before the division", &division, 2, RunEnd::Spent, 0),
+        ("no turn", &letters, 0, None, 0),
+        ("before the first byte", &letters, 1, None, 0),
+        ("after the first byte", &letters, 3, None, 1),
+        ("before the return", &letters, 5, None, 2),
+        ("the return", &letters, 6, status_3, 2),
+        ("more turns than needed", &letters, 9, status_3, 2),
+        ("before the division", &division, 2, None, 0),
         ("the division", &division, 3, divided, 0),
         (
             "the output is full",
             &endless,
             2_097_152,
-            RunEnd::Spent,
+            None,
             1_048_576,
         ),
         ("one byte more", &endless, 2_097_153, full, 1_048_576),
@@ -106,7 +108,7 @@ fn bytes_come_in_order(rt: HostRuntime) -> Result<(), Fail> {
     let mut output = Vec::with_capacity(alloc, MOST_BYTES)?;
     assert_eq!(rt;
         run(&code, 100, &mut thread, &mut output),
-        RunEnd::Exited(3)
+        Some(Finish::Exited(3))
     );
     assert_eq!(rt; output.as_slice(), b"AB".as_slice());
     Ok(())

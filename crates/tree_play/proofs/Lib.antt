@@ -1,2 +1,2 @@
 pub mod Far
-mod More
+pub mod More

@@ -9,4 +9,4 @@ pub returns-in-Event-Exit-clause-turn : goal.returns-in-Event-Exit-clause-turn
 returns-in-Event-Exit-clause-turn c =
     let old = c.args.thread.now in
     let wants : want_of old ≡ WantEvent (Exit c.in-Event-Exit.status) = cc in
-    exit_tells c.args.code.now old old c.in-Event-Exit.status c.args.output.now.items c.requires.ready wants
+    exit_tells c.args.code.now old c.requires.ready c.args.out.now.items old c.in-Event-Exit.status wants
