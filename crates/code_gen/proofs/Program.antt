@@ -8,10 +8,10 @@ use Rattle.std.specs.Prelude.{slice_get, option_map, replicate, ◌==◌}
 use Rattle.std.proofs.lemmas.Bool.{cases_lt}
 use Rattle.std.proofs.lemmas.List.Elements.{All-get_or}
 use Rattle.std.proofs.lemmas.Option.{slice_get-map, slice_get_within, get_or_from_slice_get}
+use Rattle.filc_num.specs.declared.registers.TheConstants.{REGISTERS}
 use Rattle.c_tree.specs.declared.program.FunctionDef.{FunctionDef}
 use Rattle.c_tree.specs.Plain.{PlainProgram}
 use Rattle.c_tree.specs.Fits.{FunctionFits, IsProgram}
-use Rattle.filc_code.specs.WellFormed.{register_count}
 use Rattle.filc_code.specs.declared.op.Op.TheVariants.{Const, Return as ReturnOp}
 use Rattle.ideal_machine.specs.declared.value.Value.{Value}
 use Rattle.ideal_machine.specs.declared.event.Answer.{Answer}
@@ -42,7 +42,7 @@ zeros_at (suc n) (suc x) = zeros_at n x
 
 first_zeros : (x : ℕ) → value_at first_registers x ≡ zero_value
 unfolding first_registers
-first_zeros x = zeros_at register_count x
+first_zeros x = zeros_at REGISTERS x
 
 -- code runs a function: it comes to the return of the function's value
 abbrev ReturnsTo : Bool → Bounded → Log → Behaviour (Unit {0}) Value → Type 0

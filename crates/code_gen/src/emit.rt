@@ -4,13 +4,12 @@ ghost use Rattle.std.specs.Prelude.{◌≡◌, ◌+◌, ◌<◌, [], ◌∷◌, 
 ghost use Rattle.c_tree.specs.Fits.{FunctionFits};
 ghost use Rattle.c_tree.specs.Temps.{temps_of, stmt_temps};
 ghost use Rattle.filc_code.specs.Plain.{plain_function};
-ghost use Rattle.filc_code.specs.WellFormed.{register_count};
 ghost use Rattle.code_gen.specs.Code.{at_line, expr_code, zeros_code, with_stmt, function_code};
 
 use c_tree::{Expr, FunctionDef, LocalDef, Stmt};
 use filc_code::{CodeFunction, Instruction, Op, operator_number, type_number};
-use filc_num::BinOp;
-use std::alloc::{AllocError as NoMemory, Global};
+use filc_num::{BinOp, REGISTERS};
+use std::alloc::{AllocError, Global};
 
 /// The number of the type `int(void)`, which every function has: 0 is that of `int(void*)`.
 const ONLY_KIND: u32 = 1;
@@ -27,7 +26,7 @@ fn instruction(line: u32, op: Op) -> Instruction
 }
 
 /// One instruction more.
-fn put(code: &mut Vec<Instruction>, line: u32, op: Op) -> Result<(), NoMemory>
+fn put(code: &mut Vec<Instruction>, line: u32, op: Op) -> Result<(), AllocError>
     ensures { OnOk result (code.new.items ≡ code.old.items ++ at_line line op ∷ []) }
 {
     code.push(instruction(line, op))?;
@@ -35,18 +34,18 @@ fn put(code: &mut Vec<Instruction>, line: u32, op: Op) -> Result<(), NoMemory>
 }
 
 /// The index of the next instruction. More instructions than a jump can name are too much memory.
-fn next_index(code: &Vec<Instruction>) -> Result<u32, NoMemory>
+fn next_index(code: &Vec<Instruction>) -> Result<u32, AllocError>
     ensures { IfOk result (λ index. index ≡ length code.now.items) }
 {
     match u32::try_from(code.len()) {
         Ok(index) => Ok(index),
-        Err(_) => Err(NoMemory),
+        Err(_) => Err(AllocError),
     }
 }
 
 /// An expression, with its value in the register t.
-fn emit_expr(code: &mut Vec<Instruction>, expr: &Expr, t: u32) -> Result<(), NoMemory>
-    requires { t + temps_of expr.now < register_count }
+fn emit_expr(code: &mut Vec<Instruction>, expr: &Expr, t: u32) -> Result<(), AllocError>
+    requires { t + temps_of expr.now < REGISTERS }
     ensures { OnOk result (code.new.items ≡ code.old.items ++ expr_code expr.now t) }
 {
     match expr {
@@ -80,7 +79,7 @@ fn emit_expr(code: &mut Vec<Instruction>, expr: &Expr, t: u32) -> Result<(), NoM
 }
 
 /// The locals of a block become zero.
-fn emit_zeros(code: &mut Vec<Instruction>, locals: &[LocalDef]) -> Result<(), NoMemory>
+fn emit_zeros(code: &mut Vec<Instruction>, locals: &[LocalDef]) -> Result<(), AllocError>
     ensures { OnOk result (code.new.items ≡ code.old.items ++ zeros_code locals.now) }
 {
     for local in locals {
@@ -90,8 +89,8 @@ fn emit_zeros(code: &mut Vec<Instruction>, locals: &[LocalDef]) -> Result<(), No
 }
 
 /// A statement, with t as the first temporary.
-fn emit_stmt(code: &mut Vec<Instruction>, stmt: &Stmt, t: u32) -> Result<(), NoMemory>
-    requires { t + stmt_temps stmt.now < register_count }
+fn emit_stmt(code: &mut Vec<Instruction>, stmt: &Stmt, t: u32) -> Result<(), AllocError>
+    requires { t + stmt_temps stmt.now < REGISTERS }
     ensures { OnOk result (code.new.items ≡ with_stmt code.old.items stmt.now t) }
 {
     match stmt {
@@ -130,7 +129,7 @@ fn emit_stmt(code: &mut Vec<Instruction>, stmt: &Stmt, t: u32) -> Result<(), NoM
 }
 
 /// A function.
-pub fn emit_function(alloc: Global, function: &FunctionDef) -> Result<CodeFunction, NoMemory>
+pub fn emit_function(alloc: Global, function: &FunctionDef) -> Result<CodeFunction, AllocError>
     requires { FunctionFits function.now }
     ensures { IfOk result (λ code. plain_function code ≡ function_code function.now) }
 {

@@ -17,11 +17,11 @@ pub mod laws;
 
 use c_tree::Program;
 use filc_code::Code;
-use std::alloc::{AllocError as NoMemory, Global};
+use std::alloc::{AllocError, Global};
 
 /// The code of a program, which plays it: for the same answers it makes the same events and ends
 /// alike, with as many backward jumps and calls.
-pub fn compile(alloc: Global, program: &Program) -> Result<Code, NoMemory>
+pub fn compile(alloc: Global, program: &Program) -> Result<Code, AllocError>
     ensures code { IfOk result (λ code. code ≡ program_code program.now) }
     ensures plays { IfOk result (λ code. Plays code program.now) }
 {

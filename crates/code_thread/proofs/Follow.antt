@@ -2,7 +2,7 @@
 use Rattle.std.proofs.Common.{◌≡◌, ⊎_elim, ℕ, zero, suc, ◌+◌, ◌%◌, ◌<◌, List, length, Option, Some, None, Bool, true, false, Result, Ok, Err, refl, sym, ap, ◌∙◌, subst, arith}
 use Rattle.std.specs.Prelude.{slice_get, nat_lt, option_and_then, ◌==◌, ◌||◌}
 use Rattle.std.proofs.lemmas.Bool.{lt-ltb}
-use Rattle.filc_num.specs.declared.integer.Arith.{Arith}
+use Rattle.filc_num.specs.declared.integer.ArithFault.{ArithFault}
 use Rattle.filc_num.specs.declared.reason.Reason.{Reason}
 use Rattle.filc_num.specs.declared.reason.Reason.TheVariants.{OutputLimit}
 use Rattle.filc_code.specs.declared.op.Instruction.{Instruction}
@@ -80,13 +80,13 @@ module _ (main : Bool) (line index : ℕ) (next : ℕ → List Value → Phrase 
   goes_ahead written after e = let same : written ≡ after = cc in ap (λ l. next (index + 1) l) same ∙ ahead index (next (index + 1) after)
 
   result_goes :
-      (d : ℕ) (after : List Value) (r : Result ℕ Arith) → put_result d registers r ≡ Ok after →
+      (d : ℕ) (after : List Value) (r : Result ℕ ArithFault) → put_result d registers r ≡ Ok after →
       bind (arithmetic_result r line) (λ _ v. next (index + 1) (put_at registers d v)) ≡ go_to (nat_lt index (index + 1)) (next (index + 1) after)
   result_goes d after (Ok n) e = goes_ahead (put_at registers d (integer n)) after e
   result_goes d after (Err fault) e = absurd (cc)
 
   result_traps :
-      (d : ℕ) (fault : Arith) (r : Result ℕ Arith) → put_result d registers r ≡ Err fault →
+      (d : ℕ) (fault : ArithFault) (r : Result ℕ ArithFault) → put_result d registers r ≡ Err fault →
       bind (arithmetic_result r line) (λ _ v. next (index + 1) (put_at registers d v)) ≡ trap (reason_of fault) line
   result_traps d fault (Ok n) e = absurd (cc)
   result_traps d fault (Err other) e = let same : other ≡ fault = cc in ap (λ f. trap (reason_of f) line) same
@@ -113,7 +113,7 @@ module _ (main : Bool) (line index : ℕ) (next : ℕ → List Value → Phrase 
   act_goes (Exit a) after l acts at st e = absurd (cc)
 
   -- and one that has none
-  act_traps : (op : Op) (fault : Arith) → registers_after op registers ≡ Err fault → act main op line next index registers ≡ trap (reason_of fault) line
+  act_traps : (op : Op) (fault : ArithFault) → registers_after op registers ≡ Err fault → act main op line next index registers ≡ trap (reason_of fault) line
   act_traps (Binary d a b op t) fault e = result_traps d fault _ e
   act_traps op fault e = absurd (cc)
 
@@ -127,7 +127,7 @@ module _ (code : PlainCode) (f : PlainFunction) (thread : Thread) (there : slice
 
   -- the operation's result decides
   operation_steps :
-      (op : Op) (line : ℕ) (r : Result (List Value) Arith) → index_after op thread.index thread.registers < length f.instructions →
+      (op : Op) (line : ℕ) (r : Result (List Value) ArithFault) → index_after op thread.index thread.registers < length f.instructions →
       (l : ℕ) (acts : Op) (at : ℕ) → stage_of thread.main op l thread.registers ≡ Acts acts at → registers_after op thread.registers ≡ r →
       Steps (act thread.main op line next thread.index thread.registers) (thread_after_operation code thread op line r)
   operation_steps op line (Ok after) inside l acts at st e =

@@ -3,13 +3,14 @@ use Rattle.std.proofs.Common.{◌≡◌, ℕ, zero, suc, ◌+◌, ◌%◌, ◌<�
 use Rattle.std.specs.Prelude.{slice_get, option_and_then, ◌==◌}
 use Rattle.std.proofs.lemmas.List.Elements.{All-get_or}
 use Rattle.std.proofs.lemmas.Option.{slice_get_within, slice_get-get_or, get_or_from_slice_get}
-use Rattle.filc_num.specs.declared.integer.Arith.{Arith}
+use Rattle.filc_num.specs.declared.registers.TheConstants.{REGISTERS}
+use Rattle.filc_num.specs.declared.integer.ArithFault.{ArithFault}
 use Rattle.filc_num.specs.declared.reason.Reason.{Reason}
 use Rattle.filc_code.specs.declared.op.Instruction.{Instruction}
 use Rattle.filc_code.specs.declared.op.Op.{Op}
 use Rattle.filc_code.specs.declared.op.Op.TheVariants.{Const, Move, Binary, Jump, JumpZero, Return, Out, Exit}
 use Rattle.filc_code.specs.Plain.{PlainFunction, PlainCode}
-use Rattle.filc_code.specs.WellFormed.{register_count, KeepsRegisters, KeepsTarget, IsOpWellFormed, LeavesPlace, EndsInLeaving, IsFunctionWellFormed}
+use Rattle.filc_code.specs.WellFormed.{KeepsRegisters, KeepsTarget, IsOpWellFormed, LeavesPlace, EndsInLeaving, IsFunctionWellFormed}
 use Rattle.ideal_machine.specs.declared.value.Value.{Value}
 use Rattle.ideal_machine.specs.declared.event.Answer.{Answer}
 use Rattle.ideal_machine.specs.declared.event.Answer.TheVariants.{Refused, Done}
@@ -39,7 +40,7 @@ keeps_more values more (Out a) le h = omega (arith, h)
 keeps_more values more (Exit a) le h = omega (arith, h)
 
 -- registers after an operation that has a result
-abbrev pub Written : List Value → Result (List Value) Arith
+abbrev pub Written : List Value → Result (List Value) ArithFault
 Written registers = Ok registers
 
 module _ (registers after : List Value) where
@@ -49,7 +50,7 @@ module _ (registers after : List Value) where
   put_long : (d : ℕ) (v : Value) → d < length registers → Written (put_at registers d v) ≡ Ok after → length after ≡ length registers
   put_long d v h e = let same : put_at registers d v ≡ after = cc in sym (ap length same) ∙ length-put_at registers d v h
 
-  result_long : (d : ℕ) (r : Result ℕ Arith) → d < length registers → put_result d registers r ≡ Ok after → length after ≡ length registers
+  result_long : (d : ℕ) (r : Result ℕ ArithFault) → d < length registers → put_result d registers r ≡ Ok after → length after ≡ length registers
   result_long d (Ok n) h e = put_long d (integer n) h e
   result_long d (Err fault) h e = absurd (cc)
 
@@ -164,7 +165,7 @@ standing code thread h before =
 -- a thread that comes to an index of its function
 pub arrives :
     (code : PlainCode) (function : ℕ) (f : PlainFunction) (main : Bool) (index : ℕ) (registers : List Value) →
-    slice_get code.functions function ≡ Some f → IsFunctionWellFormed f → index < length f.instructions → length registers ≡ register_count →
+    slice_get code.functions function ≡ Some f → IsFunctionWellFormed f → index < length f.instructions → length registers ≡ REGISTERS →
     IsThreadOf code (thread_at code function main index registers)
 arrives code function f main index registers there formed inside long = record {
   running = f;
@@ -188,8 +189,8 @@ module _ (code : PlainCode) (thread : Thread) (h : IsThreadOf code thread) where
   next_of s goes = next_inside instructions thread.index s.i h.formed.ends s.at goes
 
   operation_keeps :
-      (op : Op) (line : ℕ) (r : Result (List Value) Arith) → index_after op thread.index thread.registers < length instructions →
-      ((after : List Value) → r ≡ Ok after → length after ≡ register_count) → IsThreadOf code (thread_after_operation code thread op line r)
+      (op : Op) (line : ℕ) (r : Result (List Value) ArithFault) → index_after op thread.index thread.registers < length instructions →
+      ((after : List Value) → r ≡ Ok after → length after ≡ REGISTERS) → IsThreadOf code (thread_after_operation code thread op line r)
   operation_keeps op line (Ok after) inside long =
       arrives code thread.function h.running thread.main (index_after op thread.index thread.registers) after h.there h.formed inside (long after refl)
   operation_keeps op line (Err fault) inside long = begun_stays code thread (Traps _ line) refl h
@@ -250,7 +251,7 @@ module _ (code : PlainCode) (thread : Thread) (h : IsThreadOf code thread) where
   same_running f e = let both : Some h.running ≡ Some f = sym h.there ∙ e in cc
 
 -- a frame
-pub first_long : length first_registers ≡ register_count
+pub first_long : length first_registers ≡ REGISTERS
 unfolding first_registers
 first_long = refl
 
@@ -266,7 +267,7 @@ begin_makes code function f there formed =
 -- a thread whose stage is the one before the instruction at its index
 pub arrives_at_stage :
     (code : PlainCode) (thread : Thread) (f : PlainFunction) → slice_get code.functions thread.function ≡ Some f → IsFunctionWellFormed f →
-    thread.index < length f.instructions → length thread.registers ≡ register_count →
+    thread.index < length f.instructions → length thread.registers ≡ REGISTERS →
     thread.stage ≡ stage_at thread.main (slice_get f.instructions thread.index) thread.registers → IsThreadOf code thread
 arrives_at_stage code thread f there formed inside long e =
     record { running = f; there = there; formed = formed; inside = inside; registers = long; stands = λ before. sym e }

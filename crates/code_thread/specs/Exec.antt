@@ -3,12 +3,12 @@
 -- A thread stands at an index of its function's code and has registers. Each instruction asks what it asks, writes its
 -- register, and goes on at the next index, or where it jumps. A jump that doesn't lead forward is marked.
 use Rattle.std.specs.Prelude.{ℕ, zero, suc, ◌+◌, ◌*◌, List, Option, Some, None, Bool, true, false, nat_lt, slice_get, replicate, ◌==◌}
+use Rattle.filc_num.specs.declared.registers.TheConstants.{REGISTERS}
 use Rattle.filc_code.specs.declared.op.Instruction.{Instruction}
 use Rattle.filc_code.specs.declared.op.Op.{Op}
 use Rattle.filc_code.specs.declared.op.Op.TheVariants.{Const, Move, Binary, Jump, JumpZero, Return, Out, Exit}
 use Rattle.filc_code.specs.Plain.{PlainFunction, PlainCode}
 use Rattle.filc_code.specs.Numbers.{operator_at, type_at}
-use Rattle.filc_code.specs.WellFormed.{register_count}
 use Rattle.ideal_machine.specs.declared.value.Value.{Value}
 use Rattle.ideal_machine.specs.declared.event.Answer.{Answer}
 use Rattle.ideal_machine.specs.Values.{integer, zero_value, value_at, put_at}
@@ -51,7 +51,7 @@ exec main code (suc m) index registers = act_at main (slice_get code index) (exe
 
 -- a frame's registers when its function is entered: all zero
 unfoldable pub first_registers : List Value
-first_registers = replicate register_count zero_value
+first_registers = replicate REGISTERS zero_value
 
 -- a function from its first instruction on
 abbrev pub exec_called : Bool → Option PlainFunction → ℕ → Phrase ℕ

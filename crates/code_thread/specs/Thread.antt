@@ -4,13 +4,14 @@
 -- its answer. `plays_on` says what its state means: the play of the instructions from there on. Each call goes on in
 -- that play, by one instruction, or by the answer to one event.
 use Rattle.std.specs.Prelude.{◌≡◌, ℕ, zero, suc, ◌+◌, ◌%◌, ◌<◌, List, length, Option, Some, None, Bool, true, false, Result, Ok, Err, nat_lt, slice_get, ◌==◌, ◌||◌}
-use Rattle.filc_num.specs.declared.integer.Arith.{Arith}
+use Rattle.filc_num.specs.declared.registers.TheConstants.{REGISTERS}
+use Rattle.filc_num.specs.declared.integer.ArithFault.{ArithFault}
 use Rattle.filc_code.specs.declared.op.Instruction.{Instruction}
 use Rattle.filc_code.specs.declared.op.Op.{Op}
 use Rattle.filc_code.specs.declared.op.Op.TheVariants.{Const, Move, Binary, Jump, JumpZero, Return, Out, Exit}
 use Rattle.filc_code.specs.Plain.{PlainFunction, PlainCode, instruction_at}
 use Rattle.filc_code.specs.Numbers.{operator_at, type_at}
-use Rattle.filc_code.specs.WellFormed.{register_count, IsFunctionWellFormed}
+use Rattle.filc_code.specs.WellFormed.{IsFunctionWellFormed}
 use Rattle.ideal_machine.specs.declared.value.Value.{Value}
 use Rattle.ideal_machine.specs.declared.finish.Finish.TheVariants.{Exited, Trapped}
 use Rattle.ideal_machine.specs.declared.event.Event.TheVariants.{Out as OutEvent, End as EndEvent, Exit as ExitEvent, Trap as TrapEvent}
@@ -88,7 +89,7 @@ put_result d registers (Ok n) = Ok (put_at registers d (integer n))
 put_result d registers (Err fault) = Err fault
 
 -- the registers after an operation, or why it has no result
-abbrev pub registers_after : Op → List Value → Result (List Value) Arith
+abbrev pub registers_after : Op → List Value → Result (List Value) ArithFault
 registers_after (Const d constant) registers = Ok (put_at registers d (integer constant))
 registers_after (Move d a) registers = Ok (put_at registers d (value_at registers a))
 registers_after (Binary d a b op t) registers =
@@ -108,11 +109,11 @@ index_after (JumpZero a target) index registers = zero_index (value_at registers
 index_after op index registers = index + 1
 
 -- what an operation makes of registers: those after it and its next index, or a fault and nothing changes
-abbrev pub IsActed : Op → ℕ → List Value → List Value → Result ℕ Arith → Type 0
+abbrev pub IsActed : Op → ℕ → List Value → List Value → Result ℕ ArithFault → Type 0
 IsActed op index old new (Ok next) = (registers_after op old ≡ Ok new) × (next ≡ index_after op index old)
 IsActed op index old new (Err fault) = (registers_after op old ≡ Err fault) × (new ≡ old)
 
-abbrev pub thread_after_operation : PlainCode → Thread → Op → ℕ → Result (List Value) Arith → Thread
+abbrev pub thread_after_operation : PlainCode → Thread → Op → ℕ → Result (List Value) ArithFault → Thread
 thread_after_operation code thread op line (Ok registers) =
     thread_at code thread.function thread.main (index_after op thread.index thread.registers) registers
 thread_after_operation code thread op line (Err fault) = at_stage thread (Traps (reason_of fault) line)
@@ -187,6 +188,6 @@ pub record IsThreadOf (code : PlainCode) (thread : Thread) : Type 0 where
   pub there : slice_get code.functions thread.function ≡ Some running
   pub formed : IsFunctionWellFormed running
   pub inside : thread.index < length running.instructions
-  pub registers : length thread.registers ≡ register_count
+  pub registers : length thread.registers ≡ REGISTERS
   pub stands : is_before thread.stage ≡ true →
       stage_at thread.main (slice_get running.instructions thread.index) thread.registers ≡ thread.stage

@@ -10,7 +10,7 @@ ghost use Rattle.code_thread.specs.Thread.{IsActed, stage_of};
 
 use crate::stage::Stage;
 use filc_code::{Op, operator_at, type_at};
-use filc_num::{Arith, BinOp, binary, convert};
+use filc_num::{ArithFault, BinOp, binary, convert};
 use ideal_machine::{Half, Value};
 
 /// An integer as a value.
@@ -58,7 +58,7 @@ fn arithmetic(op: u32, ty: u32, a: u64, b: u64) -> Result<u64, ArithFault>
 
 /// Carries out an instruction on registers and gives the index after it. Where arithmetic has no
 /// result nothing changes.
-pub fn act(registers: &mut Vec<Value>, op: Op, index: usize) -> Result<usize, Arith>
+pub fn act(registers: &mut Vec<Value>, op: Op, index: usize) -> Result<usize, ArithFault>
     requires registers { KeepsRegisters (length registers.old.items) op }
     requires numbers { KeepsNumbers op }
     requires index { index + 1 < 2 ^ 64 }

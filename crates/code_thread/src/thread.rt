@@ -3,7 +3,7 @@
 ghost use Rattle.std.specs.Prelude.{◌≡◌, ◌<◌, length, IfOk, slice_get};
 ghost use Rattle.ideal_machine.specs.Phrases.{reason_of};
 ghost use Rattle.filc_code.specs.Plain.{plain_function};
-ghost use Rattle.filc_code.specs.WellFormed.{register_count, IsFunctionWellFormed};
+ghost use Rattle.filc_code.specs.WellFormed.{IsFunctionWellFormed};
 ghost use Rattle.code_thread.specs.Exec.{first_registers};
 ghost use Rattle.code_thread.specs.Thread.{want_of, is_trapping, stage_at, IsThreadOf};
 ghost use Rattle.code_thread.specs.Thread.{thread_after_begin, thread_after_step};
@@ -13,10 +13,10 @@ ghost use Rattle.code_thread.specs.declared.stage.Want.TheVariants.{Stopped};
 
 use crate::act;
 use crate::stage::{Halt, Stage, Want};
-use filc_code::{Code, CodeFunction, REGISTERS};
-use filc_num::{Arith, Reason};
+use filc_code::{Code, CodeFunction};
+use filc_num::{ArithFault, REGISTERS, Reason};
 use ideal_machine::{Answer, Event, Finish, Half, Value};
-use std::alloc::{AllocError as NoMemory, Global};
+use std::alloc::{AllocError, Global};
 use std::marker::Model;
 
 /// What each register is when a function is entered.
@@ -39,7 +39,7 @@ pub struct CodeThread {
 
 impl Model for CodeThread {
     ghost use Rattle.std.specs.Prelude.{◌≡◌, length};
-    ghost use Rattle.filc_code.specs.WellFormed.{register_count};
+    ghost use Rattle.filc_num.specs.declared.registers.TheConstants.{REGISTERS};
     ghost use Rattle.code_thread.specs.Thread.{Thread};
 
     ghost Value = { Thread };
@@ -54,23 +54,23 @@ impl Model for CodeThread {
         }
     };
 
-    ghost invariant = { λ t. length t.registers.items ≡ register_count };
+    ghost invariant = { λ t. length t.registers.items ≡ REGISTERS };
 }
 
 /// Why arithmetic without a result stops a thread.
-fn reason_of(fault: Arith) -> Reason
+fn reason_of(fault: ArithFault) -> Reason
     ensures { result ≡ reason_of fault }
 {
     match fault {
-        Arith::Divide => Reason::Divide,
-        Arith::Shift => Reason::Shift,
+        ArithFault::Divide => Reason::Divide,
+        ArithFault::Shift => Reason::Shift,
     }
 }
 
 /// The stage of a thread that comes to an index of a function.
 fn arrive(function: &CodeFunction, main: bool, index: usize, registers: &Vec<Value>) -> Stage
     requires index { index < length function.now.instructions.items }
-    requires registers { length registers.now.items ≡ register_count }
+    requires registers { length registers.now.items ≡ REGISTERS }
     requires formed { IsFunctionWellFormed (plain_function function.now) }
     ensures { result ≡ stage_at main (slice_get function.now.instructions.items index) registers.now.items }
 {
@@ -80,21 +80,21 @@ fn arrive(function: &CodeFunction, main: bool, index: usize, registers: &Vec<Val
 
 /// Makes each register zero.
 fn clear(registers: &mut Vec<Value>)
-    requires { length registers.old.items ≡ register_count }
+    requires { length registers.old.items ≡ REGISTERS }
     ensures { registers.new.items ≡ first_registers }
 {
-    for index in 0..REGISTERS {
+    for index in 0..REGISTERS as usize {
         registers[index] = ZERO;
     }
 }
 
 impl CodeThread {
     /// A thread with nothing to do, and with the room of a frame.
-    pub fn new(alloc: Global) -> Result<CodeThread, NoMemory>
+    pub fn new(alloc: Global) -> Result<CodeThread, AllocError>
         ensures stopped { IfOk result (λ thread. want_of thread ≡ Stopped) }
     {
-        let mut registers = Vec::with_capacity(alloc, REGISTERS)?;
-        for _index in 0..REGISTERS {
+        let mut registers = Vec::with_capacity(alloc, REGISTERS as usize)?;
+        for _index in 0..REGISTERS as usize {
             registers.push(ZERO)?;
         }
         Ok(CodeThread {

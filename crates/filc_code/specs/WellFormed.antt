@@ -4,14 +4,11 @@
 -- and never goes past a function's end: control leaves the last instruction only by a jump or
 -- by the function's return.
 use Rattle.std.specs.Prelude.{ℕ, ◌<◌, ◌≤◌, List, [], ◌∷◌, All, length}
+use Rattle.filc_num.specs.declared.registers.TheConstants.{REGISTERS}
 use Rattle.filc_code.specs.declared.op.Instruction.{Instruction}
 use Rattle.filc_code.specs.declared.op.Op.{Op}
 use Rattle.filc_code.specs.declared.op.Op.TheVariants.{Const, Move, Binary, Jump, JumpZero, Return, Out, Exit}
 use Rattle.filc_code.specs.Plain.{PlainFunction, PlainCode}
-
--- how many registers a frame has
-abbrev pub register_count : ℕ
-register_count = 256
 
 -- each register that the instruction names is one of the first so many
 abbrev pub KeepsRegisters : ℕ → Op → Type 0
@@ -63,7 +60,7 @@ EndsInLeaving (i ∷ j ∷ more) = EndsInLeaving (j ∷ more)
 
 -- what each function's code keeps
 pub record IsFunctionWellFormed (f : PlainFunction) : Type 0 where
-  pub values : f.values ≤ register_count
+  pub values : f.values ≤ REGISTERS
   pub parameters : f.parameters ≤ f.values
   pub each : All (λ (i : Instruction). IsOpWellFormed f.values (length f.instructions) i.op) f.instructions
   pub ends : EndsInLeaving f.instructions

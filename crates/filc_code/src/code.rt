@@ -7,9 +7,6 @@ ghost use Rattle.filc_code.specs.WellFormed.{IsWellFormed, IsFunctionWellFormed}
 use crate::op::Instruction;
 use std::marker::Model;
 
-/// How many registers a frame has: no function's code names another.
-pub const REGISTERS: usize = 256;
-
 /// A function's code. Its registers are numbered from 0, and its parameters are the first ones.
 #[derive(Debug, Drop)]
 pub struct CodeFunction {

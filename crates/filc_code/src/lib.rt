@@ -11,6 +11,6 @@ mod code;
 mod number;
 mod op;
 
-pub use code::{Code, CodeFunction, REGISTERS};
+pub use code::{Code, CodeFunction};
 pub use number::{operator_at, operator_number, type_at, type_number};
 pub use op::{Instruction, Op};

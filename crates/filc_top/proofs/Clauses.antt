@@ -3,9 +3,10 @@ use Rattle.std.proofs.Common.{◌≡◌, ◌⊎◌, inl, inr, ℕ, List, [], ref
 use Rattle.std.specs.Prelude.{Option, Some, None}
 use Rattle.filc_num.specs.declared.refusal.Refusal.{Refusal}
 use Rattle.filc_io.specs.Outside.{FilesState, Takes, append}
-use Rattle.ideal_machine.specs.Memory.{Finish, Exited, Trapped, default_limits}
-use Rattle.tree_play.specs.Legal.{finish_of}
-use Rattle.single_thread.specs.Alone.{history_of_run}
+use Rattle.ideal_machine.specs.declared.finish.Finish.{Finish}
+use Rattle.ideal_machine.specs.declared.finish.Finish.TheVariants.{Exited, Trapped}
+use Rattle.tree_play.specs.Observable.{finish_of}
+use Rattle.single_thread.specs.Alone.{run_world, history_of_run}
 use Rattle.filc_top.specs.Commands.{IsNoCommand}
 use Rattle.filc_top.specs.Endings.{line_of, not_built}
 use Rattle.filc_top.specs.Headline.{Streams, World, ending_of, HasRun, HasNoForm, HasNotRead, IsCause, usage, unread, refused, ran, no_memory, IsWritten, whole, out_failed, err_failed, IsOutcome}
@@ -51,7 +52,7 @@ answer_kind ending.InputLimit small = absurd (omega (arith, small))
 answer_kind other small = tt
 
 ran_kind : (words : List (List ℕ)) (files : FilesState) (cause : Ending) (output : List ℕ) → HasRun words files cause output → kind cause ≡ 4
-ran_kind words files cause output why = ap kind why.run.cause_is ∙ run_kind (finish_of (history_of_run default_limits why.turns why.run.code))
+ran_kind words files cause output why = ap kind why.run.cause_is ∙ run_kind (finish_of (history_of_run run_world why.turns why.run.code))
 
 -- to take nothing changes nothing
 takes_nothing : (output : List ℕ) (old new : Streams) → output ≡ [] → Takes old.out new.out output → Takes old.out new.out []

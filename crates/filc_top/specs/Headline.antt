@@ -8,18 +8,20 @@
 --
 -- A call has a cause and an output. The cause is how it ends but for the writing: what the words, the file and
 -- the run make it. Then the output goes to standard output, and the cause's line to standard error.
-use Rattle.std.specs.Prelude.{◌≡◌, ◌⊎◌, ℕ, ◌+◌, List, [], Option, Some, None}
+use Rattle.std.specs.Prelude.{◌≡◌, ◌⊎◌, ℕ, List, [], Option, Some, None}
 use Rattle.filc_io.specs.Counts.{HasRisen}
 use Rattle.filc_io.specs.Outside.{FilesState, SinkState, Takes, file_named}
 use Rattle.c_tree.specs.Plain.{PlainProgram}
 use Rattle.form_reader.specs.Form.{HasForm}
 use Rattle.filc_code.specs.Plain.{PlainCode}
-use Rattle.ideal_machine.specs.Memory.{Finish, Exited, Trapped, default_limits}
+use Rattle.ideal_machine.specs.declared.finish.Finish.{Finish}
+use Rattle.ideal_machine.specs.declared.finish.Finish.TheVariants.{Exited, Trapped}
 use Rattle.ideal_machine.specs.Play.{Cut}
-use Rattle.tree_play.specs.Legal.{IsLegalHistory, bytes_of, finish_of}
+use Rattle.tree_play.specs.Legal.{IsLegalHistory}
+use Rattle.tree_play.specs.Observable.{bytes_of, finish_of}
 use Rattle.code_gen.specs.Code.{program_code}
 use Rattle.code_gen.specs.Correct.{Plays}
-use Rattle.single_thread.specs.Alone.{history_of_run, jumps_of_run, ending_of_run}
+use Rattle.single_thread.specs.Alone.{run_world, history_of_run, stop_of_run}
 use Rattle.filc_top.specs.Commands.{IsRun, IsNoCommand}
 use Rattle.filc_top.specs.Endings.{line_of, not_built}
 use Rattle.filc_top.specs.Writing.{FailsWithin}
@@ -70,16 +72,17 @@ ending_of (Some (Exited status)) = ending.Exited status
 ending_of (Some (Trapped reason line)) = ending.Trapped reason line
 ending_of None = ending.Spent
 
--- a run of the program for so many turns puts out these bytes and ends so
+-- a run of the program for so many turns, in which each loop makes at most as many rounds, puts out these bytes and ends
+-- so; it reads no input
 pub record IsRunOf (program : PlainProgram) (turns : ℕ) (cause : Ending) (output : List ℕ) : Type 0 where
   pub code : PlainCode
   pub code_is : code ≡ program_code program
   pub plays : Plays code program
-  pub legal : IsLegalHistory (history_of_run default_limits turns code) program default_limits (jumps_of_run default_limits turns code + 1)
-  pub output_is : output ≡ bytes_of (history_of_run default_limits turns code)
-  pub cause_is : cause ≡ ending_of (finish_of (history_of_run default_limits turns code))
+  pub legal : IsLegalHistory (history_of_run run_world turns code) program run_world turns
+  pub output_is : output ≡ bytes_of (history_of_run run_world turns code)
+  pub cause_is : cause ≡ ending_of (finish_of (history_of_run run_world turns code))
   -- without an end, all these turns were made and the code goes on
-  pub turns_made : finish_of (history_of_run default_limits turns code) ≡ None → ending_of_run default_limits turns code ≡ Cut
+  pub turns_made : finish_of (history_of_run run_world turns code) ≡ None → stop_of_run run_world turns code ≡ Some Cut
 
 -- ---- why a call ends
 

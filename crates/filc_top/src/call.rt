@@ -1,7 +1,6 @@
 //! The call, step by step: the words, the file, the front end, the run, and the writing.
 
 ghost use Rattle.std.specs.Prelude.{◌≡◌, ℕ, List, [], map, IfOk, IfErr};
-ghost use Rattle.single_thread.specs.Turns.{finish_of_end};
 ghost use Rattle.filc_top.specs.Clauses.{SaysEnding};
 ghost use Rattle.filc_top.specs.Commands.{IsNoCommand};
 ghost use Rattle.filc_top.specs.Headline.{world, streams, ending_of, IsSilent, IsCause, IsRunOf, IsWritten, IsOutcome};
@@ -15,7 +14,8 @@ use code_gen::compile;
 use code_thread::CodeThread;
 use filc_io::{FileFault, Files, Sink, Source, write_all_of};
 use form_reader::{ReadFault, read};
-use single_thread::{MOST_BYTES, RunEnd, run, runs_are_legal, runs_are_unfinished};
+use ideal_machine::Finish;
+use single_thread::{MOST_BYTES, laws, run};
 use std::alloc::Global;
 
 /// Carries out the words that stand after the program's name. The input is not read yet.
@@ -107,20 +107,20 @@ fn run_of(
     let code = compile(alloc, program)?;
     let mut thread = CodeThread::new(alloc)?;
     output.try_reserve(MOST_BYTES)?;
-    runs_are_legal();
-    runs_are_unfinished();
-    let end = run(&code, u64::from(turns), &mut thread, output);
-    Ok(ending_of(end))
+    laws::runs_are_legal();
+    laws::runs_are_unfinished();
+    let finish = run(&code, u64::from(turns), &mut thread, output);
+    Ok(ending_of(finish))
 }
 
-/// The ending of a run.
-fn ending_of(end: RunEnd) -> Ending
-    ensures { result ≡ ending_of (finish_of_end end) }
+/// The ending of a run whose program ended so, or did not in its turns.
+fn ending_of(finish: Option<Finish>) -> Ending
+    ensures { result ≡ ending_of finish }
 {
-    match end {
-        RunEnd::Exited(status) => Ending::Exited(status),
-        RunEnd::Trapped(reason, line) => Ending::Trapped(reason, line),
-        RunEnd::Spent => Ending::Spent,
+    match finish {
+        Some(Finish::Exited(status)) => Ending::Exited(status),
+        Some(Finish::Trapped(reason, line)) => Ending::Trapped(reason, line),
+        None => Ending::Spent,
     }
 }
 

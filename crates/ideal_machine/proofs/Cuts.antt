@@ -2,7 +2,7 @@
 use Rattle.std.proofs.Common.{◌≡◌, ℕ, zero, suc, ◌+◌, ◌≤◌, List, Option, Some, None, Bool, true, false, Result, Ok, Err, refl, sym, ap, subst, arith}
 use Rattle.filc_num.specs.declared.integer.IntType.{IntType}
 use Rattle.filc_num.specs.declared.integer.BinOp.{BinOp}
-use Rattle.filc_num.specs.declared.integer.Arith.{Arith}
+use Rattle.filc_num.specs.declared.integer.ArithFault.{ArithFault}
 use Rattle.filc_num.specs.declared.reason.Reason.{Reason}
 use Rattle.ideal_machine.specs.declared.value.Value.{Value}
 use Rattle.ideal_machine.specs.Queries.{Query, Reply, event_of}
@@ -155,7 +155,7 @@ pub leave_far : (n : ℕ) (main : Bool) (v : Value) → IsFar n (leave main v)
 leave_far n true v = λ _. tt
 leave_far n false v = λ _. tt
 
-result_far : (n : ℕ) (r : Result ℕ Arith) (line : ℕ) → IsFar n (arithmetic_result r line)
+result_far : (n : ℕ) (r : Result ℕ ArithFault) (line : ℕ) → IsFar n (arithmetic_result r line)
 result_far n (Ok m) line = tt
 result_far n (Err fault) line = λ _. tt
 

@@ -7,8 +7,8 @@ use Rattle.filc_num.specs.Integers.{convert_of, binary_of}
 use Rattle.filc_num.specs.declared.integer.IntType.{IntType}
 use Rattle.filc_num.specs.declared.integer.BinOp.{BinOp}
 use Rattle.filc_num.specs.declared.integer.BinOp.TheVariants.{Shl, Shr}
-use Rattle.filc_num.specs.declared.integer.Arith.{Arith}
-use Rattle.filc_num.specs.declared.integer.Arith.TheVariants.{Divide as ArithDivide, Shift as ArithShift}
+use Rattle.filc_num.specs.declared.integer.ArithFault.{ArithFault}
+use Rattle.filc_num.specs.declared.integer.ArithFault.TheVariants.{Divide as ArithDivide, Shift as ArithShift}
 use Rattle.filc_num.specs.declared.reason.Reason.{Reason}
 use Rattle.filc_num.specs.declared.reason.Reason.TheVariants.{Divide, Shift}
 use Rattle.ideal_machine.specs.declared.value.Value.{Value}
@@ -68,17 +68,17 @@ right_operand Shr ty b = b
 right_operand op ty b = convert_of b ty
 
 -- why arithmetic without a result traps
-abbrev pub reason_of : Arith → Reason
+abbrev pub reason_of : ArithFault → Reason
 reason_of ArithDivide = Divide
 reason_of ArithShift = Shift
 
 -- the value of a result; arithmetic without one is a trap
-abbrev pub arithmetic_result : Result ℕ Arith → ℕ → Phrase Value
+abbrev pub arithmetic_result : Result ℕ ArithFault → ℕ → Phrase Value
 arithmetic_result (Ok n) line = Gives tt (integer n)
 arithmetic_result (Err fault) line = trap (reason_of fault) line
 
 -- a op b, made in a type to which both operands are converted (C11 6.3.1.8)
-abbrev pub operator_result : BinOp → IntType → ℕ → ℕ → Result ℕ Arith
+abbrev pub operator_result : BinOp → IntType → ℕ → ℕ → Result ℕ ArithFault
 operator_result op ty a b = binary_of op ty (convert_of a ty) (right_operand op ty b)
 
 abbrev pub arithmetic : BinOp → IntType → Value → Value → ℕ → Phrase Value

@@ -1,7 +1,7 @@
 -- A run of m instructions makes at most m backward jumps, and fewer where it makes an event.
 use Rattle.std.proofs.Common.{◌≡◌, ◌⊎◌, inl, inr, ⊎_elim, ℕ, zero, suc, ◌+◌, ◌%◌, ◌≤◌, List, [], length, Option, Some, None, Bool, true, false, Result, Ok, Err, refl, subst, sym, arith, eq-eqb}
 use Rattle.std.specs.Prelude.{slice_get, nat_lt}
-use Rattle.filc_num.specs.declared.integer.Arith.{Arith}
+use Rattle.filc_num.specs.declared.integer.ArithFault.{ArithFault}
 use Rattle.filc_num.specs.declared.reason.Reason.{Reason}
 use Rattle.filc_code.specs.declared.op.Instruction.{Instruction}
 use Rattle.filc_code.specs.declared.op.Op.{Op}
@@ -42,7 +42,7 @@ module _ (world : World) where
   zero_few m (suc n) p q memory h k = k
 
   result_few :
-      (m : ℕ) (r : Result ℕ Arith) (line : ℕ) (go : Value → Phrase ℕ) (memory : Memory) → ((v : Value) → Few m (go v) memory) →
+      (m : ℕ) (r : Result ℕ ArithFault) (line : ℕ) (go : Value → Phrase ℕ) (memory : Memory) → ((v : Value) → Few m (go v) memory) →
       Few (suc m) (bind (arithmetic_result r line) (λ _ v. go v)) memory
   result_few m (Ok n) line go memory h = one_more m (go (integer n)) memory (h (integer n))
   result_few m (Err fault) line go memory h = inl (omega arith)

@@ -2,7 +2,7 @@
 -- of code from `main` on is one.
 use Rattle.std.proofs.Common.{◌≡◌, ℕ, zero, suc, ◌+◌, List, Option, Some, None, Bool, true, false, Result, Ok, Err, refl, subst, sym, eq-eqb}
 use Rattle.std.specs.Prelude.{slice_get, nat_lt}
-use Rattle.filc_num.specs.declared.integer.Arith.{Arith}
+use Rattle.filc_num.specs.declared.integer.ArithFault.{ArithFault}
 use Rattle.filc_num.specs.declared.reason.Reason.{Reason}
 use Rattle.filc_code.specs.declared.op.Instruction.{Instruction}
 use Rattle.filc_code.specs.declared.op.Op.{Op}
@@ -56,7 +56,7 @@ refused_lone line go h (Some reason) = tt
 out_lone : (value : Value) (line : ℕ) → IsLone (put_out value line)
 out_lone value line = λ reply. refused_lone line (Gives tt tt) tt reply
 
-result_lone : (r : Result ℕ Arith) (line : ℕ) → IsLone (arithmetic_result r line)
+result_lone : (r : Result ℕ ArithFault) (line : ℕ) → IsLone (arithmetic_result r line)
 result_lone (Ok n) line = tt
 result_lone (Err fault) line = tt
 

@@ -180,7 +180,7 @@ module _ (code : PlainCode) (t : Thread) (r : IsReady code t) (output : List ℕ
 
   -- an operation, by its result
   operation_tells :
-      (op : Op) (line : ℕ) (result : Result (List Value) Arith) → IsThreadOf code (thread_after_operation code t op line result) →
+      (op : Op) (line : ℕ) (result : Result (List Value) ArithFault) → IsThreadOf code (thread_after_operation code t op line result) →
       ((m : ℕ) → seen_from code (suc m) t output ≡ seen_by code (plays_on f.instructions m (thread_after_operation code t op line result)) output) →
       TurnTells code t output (trap_at (thread_after_operation code t op line result).stage) (thread_after_operation code t op line result) output
   operation_tells op line (Ok after) of each = tells_came _ after output of each

@@ -4,7 +4,7 @@ use Rattle.std.proofs.Common.{◌≡◌, ℕ, zero, suc, ◌+◌, ◌%◌, ◌<�
 use Rattle.std.specs.Prelude.{slice_get, nat_lt}
 use Rattle.std.proofs.lemmas.List.Elements.{All-get_or}
 use Rattle.std.proofs.lemmas.Option.{slice_get-get_or}
-use Rattle.filc_num.specs.declared.integer.Arith.{Arith}
+use Rattle.filc_num.specs.declared.integer.ArithFault.{ArithFault}
 use Rattle.filc_num.specs.declared.reason.Reason.{Reason}
 use Rattle.filc_code.specs.declared.op.Instruction.{Instruction}
 use Rattle.filc_code.specs.declared.op.Op.{Op}
@@ -44,7 +44,7 @@ module _ (world : World) where
   zero_cuts (suc n) p q memory h k = k
 
   result_cuts :
-      (r : Result ℕ Arith) (line : ℕ) (go : Value → Phrase ℕ) (memory : Memory) → ((v : Value) → EndsOrCut (go v) memory) →
+      (r : Result ℕ ArithFault) (line : ℕ) (go : Value → Phrase ℕ) (memory : Memory) → ((v : Value) → EndsOrCut (go v) memory) →
       EndsOrCut (bind (arithmetic_result r line) (λ _ v. go v)) memory
   result_cuts (Ok n) line go memory h = h (integer n)
   result_cuts (Err fault) line go memory h = λ none. absurd (cc)

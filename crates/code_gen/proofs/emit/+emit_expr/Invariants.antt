@@ -1,6 +1,6 @@
 use Rattle.std.proofs.Common.{◌≡◌, ◌<◌, ◌+◌, ◌++◌, drop}
+use Rattle.filc_num.specs.declared.registers.TheConstants.{REGISTERS}
 use Rattle.c_tree.specs.Lists.{list_temps}
-use Rattle.filc_code.specs.WellFormed.{register_count}
 use Rattle.code_gen.specs.Code.{expr_code}
 use Rattle.code_gen.specs.Lists.{list_code}
 use Rattle.code_gen.proofs.emit.+emit_expr.Given as goal
@@ -12,5 +12,5 @@ decreases-emit_expr l = goal.size-emit_expr l
 abbrev pub invariant-loop-link : goal.invariant-loop-link
 invariant-loop-link l = record {
   code : l.code.items ++ list_code l.line (drop l.link-index l.link-items) l.t ≡ l.fn.code.items ++ expr_code l.expr l.t;
-  room : l.t + list_temps (drop l.link-index l.link-items) < register_count;
+  room : l.t + list_temps (drop l.link-index l.link-items) < REGISTERS;
 }

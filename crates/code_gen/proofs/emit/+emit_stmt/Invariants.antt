@@ -1,6 +1,6 @@
 use Rattle.std.proofs.Common.{◌≡◌, ◌<◌, ◌+◌, ◌++◌, drop, length}
+use Rattle.filc_num.specs.declared.registers.TheConstants.{REGISTERS}
 use Rattle.c_tree.specs.Lists.{stmt_list_temps}
-use Rattle.filc_code.specs.WellFormed.{register_count}
 use Rattle.code_gen.specs.Code.{stmt_code}
 use Rattle.code_gen.specs.Lists.{stmt_list_code}
 use Rattle.code_gen.proofs.emit.+emit_stmt.Given as goal
@@ -12,5 +12,5 @@ decreases-emit_stmt l = goal.size-emit_stmt l
 abbrev pub invariant-loop-stmt : goal.invariant-loop-stmt
 invariant-loop-stmt l = record {
   code : l.code.items ++ stmt_list_code (drop l.stmt-index l.stmt-items) l.t (length l.code.items) ≡ l.fn.code.items ++ stmt_code l.fn.stmt l.t (length l.fn.code.items);
-  room : l.t + stmt_list_temps (drop l.stmt-index l.stmt-items) < register_count;
+  room : l.t + stmt_list_temps (drop l.stmt-index l.stmt-items) < REGISTERS;
 }
