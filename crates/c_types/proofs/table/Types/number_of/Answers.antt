@@ -6,7 +6,7 @@ use Rattle.std.specs.BTreeMap.{get, Updates, IsUnchanged}
 use Rattle.c_types.specs.declared.entry.Entry.{Entry}
 use Rattle.c_types.specs.contracts.entry.EntryOrd.TheImpl as EntryOrder
 use Rattle.c_types.specs.Tables.{IsNumbered}
-use Rattle.c_types.proofs.Numberings.{slice_get-push_before, slice_get-push_at, IsNumbered-push, IsNumbered-same, on_ok, on_err}
+use Rattle.c_types.proofs.Numberings.{slice_get-push_at, IsNumbered-push, IsNumbered-same, on_ok, on_err}
 use Rattle.c_types.proofs.table.Types.number_of.Goals as goal
 
 pub returns-in-Some-clause-number : goal.returns-in-Some-clause-number
