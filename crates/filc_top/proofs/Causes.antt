@@ -1,5 +1,5 @@
 -- Each step's ending is a cause, and what was read of a file tells what the whole file is.
-use Rattle.std.proofs.Common.{◌≡◌, ◌⊎◌, inl, inr, ℕ, ◌≤◌, List, [], length, take, refl, sym, ap, subst, ◌∙◌, arith}
+use Rattle.std.proofs.Common.{◌≡◌, ℕ, ◌≤◌, List, [], length, take, refl, sym, ap, subst, ◌∙◌, arith}
 use Rattle.std.specs.Prelude.{Option, Some, None, IfSome, IsSomeAnd}
 use Rattle.std.proofs.lemmas.List.{take_all, length-take}
 use Rattle.filc_io.specs.Outside.{FilesState, file_named}
@@ -7,8 +7,7 @@ use Rattle.filc_io.specs.declared.outside.TheConstants.{MOST_READ}
 use Rattle.c_tree.specs.Plain.{PlainProgram}
 use Rattle.form_reader.specs.Form.{HasForm}
 use Rattle.filc_top.specs.Commands.{IsRun}
-use Rattle.filc_top.specs.Endings.{not_built}
-use Rattle.filc_top.specs.Headline.{IsFile, HasNoFile, IsRunOf, IsCause, unread, refused, ran, no_memory}
+use Rattle.filc_top.specs.Headline.{IsFile, IsRunOf, IsCause, unread, refused, ran, no_memory}
 use Rattle.filc_top.specs.Steps.{HasRead, EndsReading, IsProgramOf, EndsFrontEnd}
 use Rattle.filc_top.specs.declared.ending.Ending.{Ending}
 use Rattle.filc_top.specs.declared.ending.Ending.TheVariants as ending
