@@ -1,8 +1,7 @@
 -- What a typed tree keeps: each local is one of its function's, arithmetic is done in a type that C's
--- promotions leave, and a function's values fit the registers of a frame.
+-- promotions leave, and a function's values fit a frame of 256 registers.
 use Rattle.std.specs.Prelude.{IsTrue, ℕ, ◌<◌, ◌≤◌, All, length}
 use Rattle.filc_num.specs.Integers.{is_promoted}
-use Rattle.filc_num.specs.declared.registers.TheConstants.{REGISTERS}
 use Rattle.c_tree.specs.declared.expr.Expr.{Expr, Number, Local, Negate', Chain', end_of-Expr, more_of-Expr, Row_of-Link, end_of-Link, more_of-Link}
 use Rattle.c_tree.specs.declared.stmt.LocalDef.{LocalDef}
 use Rattle.c_tree.specs.declared.stmt.Stmt.{Stmt, Empty, Assign, While', Block', PutChar, Return, Row_of-Stmt, end_of-Stmt, more_of-Stmt}
@@ -39,7 +38,7 @@ abbrev mutual
 -- what a function keeps
 pub record FunctionFits (f : FunctionDef) : Type 0 where
   pub body : StmtFits f.locals f.body
-  pub values : values_of f ≤ REGISTERS
+  pub values : values_of f ≤ 256
 
 -- what a program keeps
 pub record IsProgram (program : PlainProgram) : Type 0 where

@@ -3,7 +3,6 @@
 -- An operand waits in a register of its own while the operands to its right are computed. So an
 -- operator needs, for its operand number i counted from 0, i registers more than that operand itself.
 use Rattle.std.specs.Prelude.{ℕ, ◌+◌, max}
-use Rattle.filc_num.specs.declared.registers.TheConstants.{SPARE_REGISTERS}
 use Rattle.c_tree.specs.declared.expr.Expr.{Expr, Number, Local, Negate', Chain', end_of-Expr, more_of-Expr, Row_of-Link, end_of-Link, more_of-Link}
 use Rattle.c_tree.specs.declared.stmt.Stmt.{Stmt, Empty, Assign, While', Block', PutChar, Return, Row_of-Stmt, end_of-Stmt, more_of-Stmt}
 use Rattle.c_tree.specs.declared.program.FunctionDef.{FunctionDef}
@@ -36,6 +35,6 @@ abbrev mutual
   stmts_temps end_of-Stmt = 0
   stmts_temps (more_of-Stmt s rest) = max (stmt_temps s) (stmts_temps rest)
 
--- a function's values: its locals, its greatest temporaries, and the spare registers
+-- a function's values: its locals, its greatest temporaries, and 8 spare registers
 abbrev pub values_of : FunctionDef → ℕ
-values_of f = f.locals + stmt_temps f.body + SPARE_REGISTERS
+values_of f = f.locals + stmt_temps f.body + 8
