@@ -8,7 +8,7 @@ use Rattle.c_tree.specs.Plain.{PlainProgram}
 use Rattle.form_reader.specs.Form.{HasForm}
 use Rattle.filc_top.specs.Commands.{IsRun}
 use Rattle.filc_top.specs.Headline.{IsFile, IsRunOf, IsCause, unread, refused, ran, no_memory}
-use Rattle.filc_top.specs.Steps.{HasRead, EndsReading, IsProgramOf, EndsFrontEnd}
+use Rattle.filc_top.specs.Steps.{HasRead, EndsReading, EndsFrontEnd}
 use Rattle.filc_top.specs.declared.ending.Ending.{Ending}
 use Rattle.filc_top.specs.declared.ending.Ending.TheVariants as ending
 
@@ -57,15 +57,14 @@ module _ (words : List (List ℕ)) (old new : FilesState) (name : List ℕ) (tur
         no_memory (record { name = name; turns = turns; words_are = is_run }) (record { cause_is = refl; output_is = none })
     cause_of_front_end other output why none = absurd why
 
-    pub cause_of_run : (program : PlainProgram) → IsProgramOf read program → (cause : Ending) (output : List ℕ) → IsRunOf program turns cause output → IsCause words old new cause output
-    cause_of_run program is cause output run =
+    pub cause_of_run : (program : PlainProgram) → HasForm read program → (cause : Ending) (output : List ℕ) → IsRunOf program turns cause output → IsCause words old new cause output
+    cause_of_run program form cause output run =
         ran
         (record {
           file = has_read.file;
           turns = turns;
           program = program;
           file_is = record { name = name; words_are = is_run; file_is = has_read.file_is };
-          form = whole_read has_read.file read program has_read.front is.form;
-          alone = λ other form. is.alone other (read_whole has_read.file read other has_read.front form);
+          form = whole_read has_read.file read program has_read.front form;
           run = run;
         })

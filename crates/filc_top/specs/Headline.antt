@@ -100,14 +100,13 @@ pub record HasNoForm (words : List (List ℕ)) (files : FilesState) : Type 0 whe
   pub file_is : RunsFile words files file turns
   pub no_form : (program : PlainProgram) → HasForm file program → ⊥
 
--- the file is of the form, and so of this program alone, whose run puts out these bytes and ends so
+-- the file is of the form, and a run of its program, of which it has but one, puts out these bytes and ends so
 pub record HasRun (words : List (List ℕ)) (files : FilesState) (cause : Ending) (output : List ℕ) : Type 0 where
   pub file : List ℕ
   pub turns : ℕ
   pub program : PlainProgram
   pub file_is : RunsFile words files file turns
   pub form : HasForm file program
-  pub alone : (other : PlainProgram) → HasForm file other → program ≡ other
   pub run : IsRunOf program turns cause output
 
 -- the words run a file

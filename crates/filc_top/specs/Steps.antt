@@ -22,11 +22,6 @@ EndsReading old new name ending.ReadFault = HasRisen old.faults new.faults ⊎ H
 EndsReading old new name ending.NoMemory = Unit {0}
 EndsReading old new name other = ⊥
 
--- the file is of this program, and of no other
-pub record IsProgramOf (file : List ℕ) (program : PlainProgram) : Type 0 where
-  pub form : HasForm file program
-  pub alone : (other : PlainProgram) → HasForm file other → program ≡ other
-
 -- the front end ends the call so
 abbrev pub EndsFrontEnd : List ℕ → Ending → Type 0
 EndsFrontEnd file (ending.Refused refusal) = (refusal ≡ not_built) × ((program : PlainProgram) → HasForm file program → ⊥)

@@ -1,10 +1,11 @@
 //! The call, step by step: the words, the file, the front end, the run, and the writing.
 
 ghost use Rattle.std.specs.Prelude.{◌≡◌, ℕ, List, [], map, IfOk, IfErr};
+ghost use Rattle.form_reader.specs.Form.{HasForm};
 ghost use Rattle.filc_top.specs.Clauses.{SaysEnding};
 ghost use Rattle.filc_top.specs.Commands.{IsNoCommand};
 ghost use Rattle.filc_top.specs.Headline.{world, streams, ending_of, IsSilent, IsCause, IsRunOf, IsWritten, IsOutcome};
-ghost use Rattle.filc_top.specs.Steps.{HasRead, EndsReading, IsProgramOf, EndsFrontEnd};
+ghost use Rattle.filc_top.specs.Steps.{HasRead, EndsReading, EndsFrontEnd};
 
 use crate::command::command_of;
 use crate::ending::{Ending, NOT_BUILT};
@@ -83,7 +84,7 @@ fn front_of_file<F: Files>(alloc: Global, files: &mut F, name: &str) -> Result<V
 
 /// The front end: the program that the file is.
 fn program_of(alloc: Global, file: &[u8]) -> Result<Program, Ending>
-    ensures found { IfOk result (IsProgramOf file.now) }
+    ensures found { IfOk result (HasForm file.now) }
     ensures ended { IfErr result (EndsFrontEnd file.now) }
 {
     match read(alloc, file) {

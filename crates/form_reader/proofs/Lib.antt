@@ -10,3 +10,6 @@ pub mod Blocks
 pub mod Fitting
 pub mod Declaring
 pub mod Mains
+pub mod OneExpr
+pub mod OneStmt
+pub mod OneForm

@@ -108,7 +108,7 @@ module _ (putchar : Bool) (start : List Lexeme) (head old : List Lexeme) (headed
 -- ---- a whole file
 
 -- a file can't begin with both
-both_heads : (intro main head rest : List Lexeme) → map text_of intro ≡ intro_texts true → map text_of head ≡ head_texts → intro ++ main ≡ head ++ rest → ⊥
+pub both_heads : (intro main head rest : List Lexeme) → map text_of intro ≡ intro_texts true → map text_of head ≡ head_texts → intro ++ main ≡ head ++ rest → ⊥
 both_heads [] main head rest intro_is head_is same = cc
 both_heads (a ∷ []) main head rest intro_is head_is same = cc
 both_heads (a ∷ (b ∷ intro)) main [] rest intro_is head_is same = cc
@@ -120,7 +120,7 @@ both_heads (a ∷ (b ∷ intro)) main (c ∷ (d ∷ head)) rest intro_is head_is
     let clash : codes "putchar" ≡ codes "main" = sym left ∙ (ap text_of one ∙ right) in
     cc
 
-no_texts : (intro : List Lexeme) → map text_of intro ≡ [] → intro ≡ []
+pub no_texts : (intro : List Lexeme) → map text_of intro ≡ [] → intro ≡ []
 no_texts [] none = refl
 no_texts (a ∷ intro) none = absurd cc
 

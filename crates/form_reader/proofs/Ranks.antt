@@ -59,7 +59,7 @@ ends_tighter rank (suc other) byte line op rest is below =
     (same_rank rank (suc other) byte op is below, ends_tighter rank other byte line op rest is (omega arith))
 
 -- two links with the same parts are one
-same_link : (k link : Link) → (out-Link k).op ≡ (out-Link link).op → (out-Link k).ty ≡ (out-Link link).ty → (out-Link k).operand ≡ (out-Link link).operand → k ≡ link
+pub same_link : (k link : Link) → (out-Link k).op ≡ (out-Link link).op → (out-Link k).ty ≡ (out-Link link).ty → (out-Link k).operand ≡ (out-Link link).operand → k ≡ link
 same_link k link a b c =
     let parts : out-Link k ≡ out-Link link = λ i. record { op = a i; ty = b i; operand = c i } in
     sym (roll-out-Link k) ∙ (ap roll-Link parts ∙ roll-out-Link link)

@@ -168,7 +168,7 @@ while_is_keyword = refl
 putchar_is_keyword : is_keyword (codes "putchar") ≡ true
 putchar_is_keyword = refl
 
-no_keyword : (bytes word : List ℕ) → is_keyword word ≡ true → bytes ≡ word → is_keyword bytes ≡ false → ⊥
+pub no_keyword : (bytes word : List ℕ) → is_keyword word ≡ true → bytes ≡ word → is_keyword bytes ≡ false → ⊥
 no_keyword bytes word keyword same other = false≢true (sym other ∙ (ap is_keyword same ∙ keyword))
 
 pub differ : (bytes a b : List ℕ) → bytes_eq a a ≡ true → bytes_eq b a ≡ false → bytes ≡ a → bytes ≡ b → ⊥
