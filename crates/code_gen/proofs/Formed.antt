@@ -76,7 +76,9 @@ module _ (values long k : ℕ) where
   both : (a b : List Instruction) → AreFormed a → AreFormed b → AreFormed (a ++ b)
   both a b h k' = All-append IsFormed a b h k'
 
-  binary_formed : (line d a b : ℕ) (op : BinOp) (ty : IntType) → d < values → a < values → b < values → IsTrue (is_promoted ty) → IsOpWellFormed values long (at_line line (Binary d a b (operator_number op) (type_number ty))).op
+  binary_formed :
+      (line d a b : ℕ) (op : BinOp) (ty : IntType) → d < values → a < values → b < values → IsTrue (is_promoted ty) →
+      IsOpWellFormed values long (at_line line (Binary d a b (operator_number op) (type_number ty))).op
   binary_formed line d a b op ty hd ha hb h =
       record { registers = (hd, ha, hb); target = tt; numbers = (operator_within op, type_within ty h) }
 

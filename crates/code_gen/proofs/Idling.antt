@@ -1,12 +1,12 @@
 -- Code that idles plays nothing.
-use Rattle.std.proofs.Common.{◌≡◌, ℕ, zero, suc, List, [], ◌∷◌, true, false, subst, refl}
+use Rattle.std.proofs.Common.{◌≡◌, ℕ, zero, suc, List, [], ◌∷◌, true, subst, refl}
 use Rattle.ideal_machine.specs.declared.value.Value.{Value}
 use Rattle.ideal_machine.specs.declared.event.Answer.TheVariants.{Done}
 use Rattle.ideal_machine.specs.Values.{zero_value}
-use Rattle.ideal_machine.specs.Play.{Finished, Waits, Cut, Log, with_jump, Behaviour, Goes, Ends, log_of, run}
+use Rattle.ideal_machine.specs.Play.{Finished, Waits, Cut, Log, with_jump, Behaviour, Goes, Ends, run}
 use Rattle.ideal_machine.specs.Phrases.{Start}
 use Rattle.code_thread.specs.Exec.{exec, first_registers, code_events}
-use Rattle.code_gen.specs.Worked.{returning, code_of, endless, once_back, EndlessCodePlaysNothing, OneJumpMoreIsNoPlay}
+use Rattle.code_gen.specs.Worked.{code_of, endless, once_back, EndlessCodePlaysNothing, OneJumpMoreIsNoPlay}
 
 abbrev start : Start
 start = record { id = 0; function = 0; argument = zero_value; base = λ _. 0 }

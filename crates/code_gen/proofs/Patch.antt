@@ -10,27 +10,34 @@ use Rattle.code_gen.specs.Code.{at_line, while_code, zeros_code, stmt_code}
 use Rattle.code_gen.specs.Lists.{stmt_list_code}
 use Rattle.code_gen.proofs.Views.{block_code}
 
--- base is what was there before, c1 with the test, c2 with a jump x, c3 with the body, c4 with the jump back
-pub patch_while : (line t at n1 n2 : ℕ) (base test body c1 c2 c3 c4 : List Instruction) (x : Instruction) → at ≡ length base → c1 ≡ base ++ test → n1 ≡ length c1 → c2 ≡ c1 ++ x ∷ [] → c3 ≡ c2 ++ body → c4 ≡ c3 ++ at_line line (Jump at) ∷ [] → n2 ≡ length c4 → slice_set c4 n1 (at_line line (JumpZero t n2)) ≡ base ++ while_code line t at test body
-patch_while line t at n1 n2 base test body c1 c2 c3 c4 x ea e1 m1 e2 e3 e4 m2 =
-    let l1 = ap length e1 ∙ length-append base test in
-    let l2 = ap length e2 ∙ length-append c1 (x ∷ []) in
-    let l3 = ap length e3 ∙ length-append c2 body in
-    let l4 = ap length e4 ∙ length-append c3 (at_line line (Jump at) ∷ []) in
-    let i = at_line line (JumpZero t n2) in
-    let back = at_line line (Jump at) in
-    let d : n2 ≡ at + length test + 1 + length body + 1 = omega arith in
-    let all : c4 ≡ ((c1 ++ x ∷ []) ++ body) ++ back ∷ [] = cc in
-    let flat : ((c1 ++ x ∷ []) ++ body) ++ back ∷ [] ≡ c1 ++ x ∷ (body ++ back ∷ []) = simp append_assoc in
-    ap (λ l. slice_set l n1 i) (all ∙ flat)
-    ∙ ap (λ n. slice_set (c1 ++ x ∷ (body ++ back ∷ [])) n i) m1
-    ∙ set-append_seam c1 x (body ++ back ∷ []) i
-    ∙ ap (λ l. l ++ i ∷ (body ++ back ∷ [])) e1
-    ∙ append_assoc base test (i ∷ (body ++ back ∷ []))
-    ∙ ap (λ n. base ++ (test ++ at_line line (JumpZero t n) ∷ (body ++ back ∷ []))) d
+-- a loop: c1 is what was there before with the test, c2 that with a jump x, c3 that with the body, c4 that with the jump back
+module _ (line t at : ℕ) (base test body c1 c2 c3 c4 : List Instruction) (x : Instruction) where
+  -- the jump over the body gets its target last
+  pub patch_while :
+      (n1 n2 : ℕ) → at ≡ length base → c1 ≡ base ++ test → n1 ≡ length c1 → c2 ≡ c1 ++ x ∷ [] → c3 ≡ c2 ++ body →
+      c4 ≡ c3 ++ at_line line (Jump at) ∷ [] → n2 ≡ length c4 →
+      slice_set c4 n1 (at_line line (JumpZero t n2)) ≡ base ++ while_code line t at test body
+  patch_while n1 n2 ea e1 m1 e2 e3 e4 m2 =
+      let l1 = ap length e1 ∙ length-append base test in
+      let l2 = ap length e2 ∙ length-append c1 (x ∷ []) in
+      let l3 = ap length e3 ∙ length-append c2 body in
+      let l4 = ap length e4 ∙ length-append c3 (at_line line (Jump at) ∷ []) in
+      let i = at_line line (JumpZero t n2) in
+      let back = at_line line (Jump at) in
+      let d : n2 ≡ at + length test + 1 + length body + 1 = omega arith in
+      let all : c4 ≡ ((c1 ++ x ∷ []) ++ body) ++ back ∷ [] = cc in
+      let flat : ((c1 ++ x ∷ []) ++ body) ++ back ∷ [] ≡ c1 ++ x ∷ (body ++ back ∷ []) = simp append_assoc in
+      ap (λ l. slice_set l n1 i) (all ∙ flat)
+      ∙ ap (λ n. slice_set (c1 ++ x ∷ (body ++ back ∷ [])) n i) m1
+      ∙ set-append_seam c1 x (body ++ back ∷ []) i
+      ∙ ap (λ l. l ++ i ∷ (body ++ back ∷ [])) e1
+      ∙ append_assoc base test (i ∷ (body ++ back ∷ []))
+      ∙ ap (λ n. base ++ (test ++ at_line line (JumpZero t n) ∷ (body ++ back ∷ []))) d
 
 -- before the first statement of a block, whose locals are zero by then
-pub block_starts : (locals : List LocalDef) (body : List Stmt) (t : ℕ) (base code : List Instruction) (items : List Stmt) → code ≡ base ++ zeros_code locals → items ≡ body → code ++ stmt_list_code items t (length code) ≡ base ++ stmt_code (Block locals body) t (length base)
+pub block_starts :
+    (locals : List LocalDef) (body : List Stmt) (t : ℕ) (base code : List Instruction) (items : List Stmt) → code ≡ base ++ zeros_code locals → items ≡ body →
+    code ++ stmt_list_code items t (length code) ≡ base ++ stmt_code (Block locals body) t (length base)
 block_starts locals body t base code items e same =
     let cz = zeros_code locals in
     let long : length (base ++ cz) ≡ length base + length cz = length-append base cz in
@@ -41,7 +48,9 @@ block_starts locals body t base code items e same =
     ∙ ap (λ c. base ++ c) (sym (block_code locals body t (length base)))
 
 -- an operand, and two instructions
-pub two_more : (base part code1 code2 code3 : List Instruction) (i j : Instruction) → code1 ≡ base ++ part → code2 ≡ code1 ++ i ∷ [] → code3 ≡ code2 ++ j ∷ [] → code3 ≡ base ++ (part ++ (i ∷ (j ∷ [])))
+pub two_more :
+    (base part code1 code2 code3 : List Instruction) (i j : Instruction) → code1 ≡ base ++ part → code2 ≡ code1 ++ i ∷ [] → code3 ≡ code2 ++ j ∷ [] →
+    code3 ≡ base ++ (part ++ (i ∷ (j ∷ [])))
 two_more base part code1 code2 code3 i j e1 e2 e3 =
     let all : code3 ≡ ((base ++ part) ++ i ∷ []) ++ j ∷ [] = cc in
     let flat : ((base ++ part) ++ i ∷ []) ++ j ∷ [] ≡ base ++ (part ++ (i ∷ (j ∷ []))) = simp append_assoc in

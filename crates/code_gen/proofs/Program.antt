@@ -3,7 +3,7 @@
 -- A function's code runs its play to the end, so for each n there is an m (`follows`). The other direction needs no
 -- induction of its own: of the run of m instructions and the one that follows the play with one round more than
 -- it made jumps, either the first is a cut of the second, or the second is over (`settled`).
-use Rattle.std.proofs.Common.{◌≡◌, ⊎_elim, ℕ, zero, suc, ◌+◌, ◌<◌, ◌≤◌, List, [], ◌∷◌, ◌++◌, length, Option, Some, None, Bool, refl, sym, ap, ◌∙◌, subst, arith}
+use Rattle.std.proofs.Common.{◌≡◌, ⊎_elim, ℕ, zero, suc, ◌+◌, ◌<◌, ◌≤◌, List, [], ◌∷◌, length, Option, Some, None, Bool, refl, sym, ap, ◌∙◌, subst, arith}
 use Rattle.std.specs.Prelude.{slice_get, option_map, replicate, ◌==◌}
 use Rattle.std.proofs.lemmas.Bool.{cases_lt}
 use Rattle.std.proofs.lemmas.List.Elements.{All-get_or}
@@ -128,11 +128,10 @@ module _ (program : PlainProgram) (is : IsProgram program) (start : Start) (answ
       let fits : (f : FunctionDef) → o ≡ Some f → FunctionFits f = λ f e.
       subst FunctionFits (get_or_from_slice_get program.functions start.function f f e)
       (All-get_or FunctionFits program.functions start.function f (slice_get_within program.functions start.function f e) is.functions) in
-      let r = called_follows main (around_of n start) w o fits in
-      (
+      let r = called_follows main (around_of n start) w o fits in (
         r.0,
         ap (λ c. run (exec_called main c r.0) w) (slice_get-map function_code program.functions start.function)
-        ∙ (r.1 ∙ sym (run_bind (play_called (around_of n start) o) (λ _ v. leave main v) w)),
+            ∙ (r.1 ∙ sym (run_bind (play_called (around_of n start) o) (λ _ v. leave main v) w)),
       )
 
   -- two behaviours that are the same, and later

@@ -1,5 +1,5 @@
 -- The code of a statement runs its play: by its flow it lands at the stretch's end, or at a return.
-use Rattle.std.proofs.Common.{◌≡◌, ℕ, zero, suc, ◌+◌, ◌≤◌, List, [], ◌∷◌, ◌++◌, length, Some, refl, sym, ap, ◌∙◌, subst, arith}
+use Rattle.std.proofs.Common.{◌≡◌, ℕ, zero, suc, ◌+◌, ◌≤◌, List, [], ◌∷◌, ◌++◌, length, Some, refl, sym, ap, subst, arith}
 use Rattle.std.specs.Prelude.{slice_get}
 use Rattle.c_tree.specs.declared.stmt.LocalDef.{LocalDef}
 use Rattle.c_tree.specs.declared.stmt.Stmt.{Stmt, Empty, Assign, While', Block', PutChar, Return, Row_of-Stmt, end_of-Stmt, more_of-Stmt}
@@ -8,13 +8,13 @@ use Rattle.filc_code.specs.declared.op.Instruction.{Instruction}
 use Rattle.filc_code.specs.declared.op.Op.TheVariants.{Const, Move, Jump, JumpZero, Return as ReturnOp, Out}
 use Rattle.ideal_machine.specs.declared.value.Value.{Value}
 use Rattle.ideal_machine.specs.Values.{State, zero_value, value_at, put_at}
-use Rattle.ideal_machine.specs.Play.{Play, Gives, Jump as JumpMark, bind, Log, with_jump, Goes, run}
+use Rattle.ideal_machine.specs.Play.{Gives, Jump as JumpMark, bind, Log, with_jump, Goes, run}
 use Rattle.ideal_machine.specs.Phrases.{put_out, if_zero}
 use Rattle.tree_play.specs.TreePlay.{Around, Flow, Normal, Broke, Continued, Returned, TextPlay, play_expr, on_normal, after_body, loop, with_zeros, play_stmt, play_stmts}
 use Rattle.code_gen.specs.Code.{at_line, expr_code, zeros_code, while_code, stmt_code, stmts_code}
-use Rattle.code_gen.proofs.Between.{Between, ends, front, back}
+use Rattle.code_gen.proofs.Between.{Between, front, back}
 use Rattle.code_gen.proofs.Registers.{Agree, agree_both, matches_none}
-use Rattle.code_gen.proofs.Stretch.{Site, Bounded, from, Comes, comes_on, Landing, Runs, came, lands, bind_runs, phrase_runs, steps, at_instruction, jump_back, branches}
+use Rattle.code_gen.proofs.Stretch.{Site, from, Comes, comes_on, Landing, Runs, came, lands, bind_runs, phrase_runs, steps, at_instruction, jump_back, branches}
 use Rattle.code_gen.proofs.Expressions.{Arrived, value_runs, expr_runs}
 
 pub le_self : (k : ℕ) → k ≤ k

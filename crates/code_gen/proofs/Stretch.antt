@@ -4,7 +4,7 @@
 -- code ends like it. `bind_runs` is the one lemma of every construct: what a first part does, and what a second does
 -- from wherever the first may land, give the two in a row. `phrase_runs` is the one lemma of every event: both sides say
 -- the same phrase, so only what follows it is to be run.
-use Rattle.std.proofs.Common.{◌≡◌, ℕ, zero, suc, ◌+◌, ◌<◌, ◌≤◌, List, Some, Bool, true, false, refl, sym, ap, ◌∙◌, subst}
+use Rattle.std.proofs.Common.{◌≡◌, ℕ, zero, suc, ◌+◌, ◌<◌, ◌≤◌, List, Some, Bool, refl, sym, ap, ◌∙◌, subst}
 use Rattle.std.specs.Prelude.{slice_get, nat_lt}
 use Rattle.std.proofs.lemmas.Bool.{lt-ltb, le-ltb}
 use Rattle.filc_code.specs.declared.op.Instruction.{Instruction}

@@ -24,7 +24,9 @@ stmts_code_list end_of-Stmt t at = refl
 stmts_code_list (more_of-Stmt s rest) t at =
     ap (λ c. stmt_code s t at ++ c) (stmts_code_list rest t (at + length (stmt_code s t at)))
 
-pub negate_code : (line : ℕ) (ty : IntType) (e : Expr) (t : ℕ) → expr_code (Negate line ty e) t ≡ expr_code e t ++ (at_line line (Const (t + 1) 0) ∷ (at_line line (Binary t (t + 1) t (operator_number Sub) (type_number ty)) ∷ []))
+pub negate_code :
+    (line : ℕ) (ty : IntType) (e : Expr) (t : ℕ) →
+    expr_code (Negate line ty e) t ≡ expr_code e t ++ (at_line line (Const (t + 1) 0) ∷ (at_line line (Binary t (t + 1) t (operator_number Sub) (type_number ty)) ∷ []))
 unfolding hidden-the_row-Expr-0 shape-the_row-Expr-0 Carrier.hidden
 negate_code line ty e t = refl
 

@@ -1,5 +1,5 @@
 -- Worked examples of what plays no program: code that idles makes backward jumps that the play doesn't make.
-use Rattle.std.specs.Prelude.{ℕ, List, [], ◌∷◌}
+use Rattle.std.specs.Prelude.{List, [], ◌∷◌}
 use Rattle.filc_num.specs.declared.integer.IntType.TheVariants.{I32}
 use Rattle.c_tree.specs.declared.expr.Expr.TheVariants as expr
 use Rattle.c_tree.specs.declared.stmt.Stmt.TheVariants as stmt

@@ -1,10 +1,9 @@
 -- The calls of a thread go on in the play of its code.
-use Rattle.std.proofs.Common.{◌≡◌, ⊎_elim, ℕ, zero, suc, ◌+◌, ◌%◌, ◌<◌, List, length, Option, Some, None, Bool, true, false, Result, Ok, Err, refl, sym, ap, ◌∙◌, subst, arith}
+use Rattle.std.proofs.Common.{◌≡◌, ⊎_elim, ℕ, zero, suc, ◌+◌, ◌%◌, ◌<◌, List, length, Option, Some, Bool, true, false, Result, Ok, Err, refl, sym, ap, ◌∙◌, subst, arith}
 use Rattle.std.specs.Prelude.{slice_get, nat_lt, option_and_then, ◌==◌, ◌||◌}
 use Rattle.std.proofs.lemmas.Bool.{lt-ltb}
 use Rattle.filc_num.specs.declared.integer.ArithFault.{ArithFault}
 use Rattle.filc_num.specs.declared.reason.Reason.{Reason}
-use Rattle.filc_num.specs.declared.reason.Reason.TheVariants.{OutputLimit}
 use Rattle.filc_code.specs.declared.op.Instruction.{Instruction}
 use Rattle.filc_code.specs.declared.op.Op.{Op}
 use Rattle.filc_code.specs.declared.op.Op.TheVariants.{Const, Move, Binary, Jump, JumpZero, Return, Out, Exit}
@@ -14,12 +13,11 @@ use Rattle.ideal_machine.specs.declared.value.Value.{Value}
 use Rattle.ideal_machine.specs.declared.event.Event.{Event}
 use Rattle.ideal_machine.specs.declared.event.Event.TheVariants.{Out as OutEvent, End as EndEvent, Exit as ExitEvent, Trap as TrapEvent}
 use Rattle.ideal_machine.specs.declared.event.Answer.{Answer}
-use Rattle.ideal_machine.specs.declared.event.Answer.TheVariants.{Refused, Done}
 use Rattle.ideal_machine.specs.declared.finish.Finish.TheVariants.{Exited}
 use Rattle.ideal_machine.specs.Values.{integer, value_at, put_at}
 use Rattle.ideal_machine.specs.Queries.{Makes, room_reply}
-use Rattle.ideal_machine.specs.Play.{Play, Gives, Stops, Asks, Finished, bind}
-use Rattle.ideal_machine.specs.Phrases.{Start, Phrase, trap, unless_refused, exit, leave, put_out, reason_of, arithmetic_result, if_zero}
+use Rattle.ideal_machine.specs.Play.{Gives, Stops, Asks, Finished, bind}
+use Rattle.ideal_machine.specs.Phrases.{Start, Phrase, trap, unless_refused, exit, leave, reason_of, arithmetic_result, if_zero}
 use Rattle.ideal_machine.proofs.Replies.{out_view as reply_view}
 use Rattle.code_thread.specs.declared.stage.Stage.{Stage}
 use Rattle.code_thread.specs.declared.stage.Stage.TheVariants.{Acts, PutsOut, Ends, Exits, Traps, Over}
@@ -28,12 +26,14 @@ use Rattle.code_thread.specs.declared.stage.Want.TheVariants.{Event as WantEvent
 use Rattle.code_thread.specs.Exec.{go_to, act, act_at, exec, exec_called, exec_thread, first_registers}
 use Rattle.code_thread.specs.Thread.{Thread, want_at, leave_stage, stage_of, stage_at, thread_at, put_result, registers_after, zero_index, index_after, thread_after_operation, step_from, answer_at, thread_after_begin, halt_play, plays_at, plays_on, is_trap, is_trapping, step_play, is_before, IsThreadOf}
 use Rattle.code_thread.specs.Follows.{AsksThen, ThreadFollows}
-use Rattle.code_thread.proofs.Threads.{Written, Stands, leave_acts, leave_puts, acts_view, out_view, first_inside, instruction_inside, index_after_step, index_after_out, stands_before}
+use Rattle.code_thread.proofs.Threads.{Written, leave_acts, acts_view, out_view, first_inside, instruction_inside, index_after_step, index_after_out, stands_before}
 
 -- ---- a thread that comes to an instruction plays from there
 
 -- a stage before an instruction is no trap and no end
-before_plays : (code : List Instruction) (m : ℕ) (thread : Thread) (s : Stage) → is_before s ≡ true → (plays_at code m thread s ≡ exec thread.main code m thread.index thread.registers) × (is_trap s ≡ false)
+before_plays :
+    (code : List Instruction) (m : ℕ) (thread : Thread) (s : Stage) → is_before s ≡ true →
+    (plays_at code m thread s ≡ exec thread.main code m thread.index thread.registers) × (is_trap s ≡ false)
 before_plays code m thread (Acts op line) h = (refl, refl)
 before_plays code m thread (PutsOut byte line) h = (refl, refl)
 before_plays code m thread (Ends result) h = (refl, refl)

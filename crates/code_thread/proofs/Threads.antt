@@ -1,11 +1,10 @@
 -- A thread of a code stays one.
-use Rattle.std.proofs.Common.{◌≡◌, ℕ, zero, suc, ◌+◌, ◌%◌, ◌<◌, ◌≤◌, List, [], ◌∷◌, length, get_or, Option, Some, None, Bool, true, false, Result, Ok, Err, refl, sym, ap, ◌∙◌, subst, arith}
+use Rattle.std.proofs.Common.{◌≡◌, ℕ, zero, suc, ◌+◌, ◌%◌, ◌<◌, ◌≤◌, List, [], ◌∷◌, length, Some, Bool, true, false, Result, Ok, Err, refl, sym, ap, ◌∙◌, subst, arith}
 use Rattle.std.specs.Prelude.{slice_get, option_and_then, ◌==◌}
 use Rattle.std.proofs.lemmas.List.Elements.{All-get_or}
-use Rattle.std.proofs.lemmas.Option.{slice_get_within, slice_get-get_or, get_or_from_slice_get}
+use Rattle.std.proofs.lemmas.Option.{slice_get_within, get_or_from_slice_get}
 use Rattle.filc_num.specs.declared.registers.TheConstants.{REGISTERS}
 use Rattle.filc_num.specs.declared.integer.ArithFault.{ArithFault}
-use Rattle.filc_num.specs.declared.reason.Reason.{Reason}
 use Rattle.filc_code.specs.declared.op.Instruction.{Instruction}
 use Rattle.filc_code.specs.declared.op.Op.{Op}
 use Rattle.filc_code.specs.declared.op.Op.TheVariants.{Const, Move, Binary, Jump, JumpZero, Return, Out, Exit}
@@ -17,7 +16,6 @@ use Rattle.ideal_machine.specs.declared.event.Answer.TheVariants.{Refused, Done}
 use Rattle.ideal_machine.specs.Values.{integer, value_at, put_at}
 use Rattle.code_thread.specs.declared.stage.Stage.{Stage}
 use Rattle.code_thread.specs.declared.stage.Stage.TheVariants.{Acts, PutsOut, Ends, Exits, Traps, Over}
-use Rattle.code_thread.specs.declared.stage.Halt.{Halt}
 use Rattle.code_thread.specs.Exec.{first_registers}
 use Rattle.code_thread.specs.Thread.{Thread, leave_stage, stage_of, stage_at, thread_at, at_stage, put_result, registers_after, zero_index, index_after, thread_after_operation, step_from, thread_after_step, answer_at, thread_after_answer, thread_after_begin, is_before, IsThreadOf}
 

@@ -44,15 +44,13 @@ impl Model for CodeThread {
 
     ghost Value = { Thread };
 
-    ghost view = {
-        λ t. record {
-            function = t.function;
-            main = t.main;
-            index = t.index;
-            registers = t.registers.items;
-            stage = t.stage;
-        }
-    };
+    ghost view = { λ t. record {
+      function = t.function;
+      main = t.main;
+      index = t.index;
+      registers = t.registers.items;
+      stage = t.stage;
+    } };
 
     ghost invariant = { λ t. length t.registers.items ≡ REGISTERS };
 }

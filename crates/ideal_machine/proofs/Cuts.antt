@@ -1,12 +1,12 @@
 -- Plays with a bound: a greater bound goes on where a smaller one cuts, and a cut comes only after so many jumps.
-use Rattle.std.proofs.Common.{◌≡◌, ℕ, zero, suc, ◌+◌, ◌≤◌, List, Option, Some, None, Bool, true, false, Result, Ok, Err, refl, sym, ap, subst, arith}
+use Rattle.std.proofs.Common.{◌≡◌, ℕ, zero, suc, ◌+◌, ◌≤◌, Option, Some, None, Bool, true, false, Result, Ok, Err, refl, sym, ap, subst, arith}
 use Rattle.filc_num.specs.declared.integer.IntType.{IntType}
 use Rattle.filc_num.specs.declared.integer.BinOp.{BinOp}
 use Rattle.filc_num.specs.declared.integer.ArithFault.{ArithFault}
 use Rattle.filc_num.specs.declared.reason.Reason.{Reason}
 use Rattle.ideal_machine.specs.declared.value.Value.{Value}
-use Rattle.ideal_machine.specs.Queries.{Query, Reply, event_of}
-use Rattle.ideal_machine.specs.Play.{Stop, Finished, Waits, Cut, Play, Gives, Stops, Asks, Jump, Call, bind, Log, with_event, with_jump, with_call, Behaviour, Goes, Ends, log_of, run}
+use Rattle.ideal_machine.specs.Queries.{Reply, event_of}
+use Rattle.ideal_machine.specs.Play.{Stop, Finished, Waits, Cut, Play, Gives, Stops, Asks, Jump, Call, bind, Log, with_event, with_jump, with_call, Behaviour, Goes, Ends, run}
 use Rattle.ideal_machine.specs.Phrases.{unless_refused, leave, put_out, operator_result, arithmetic_result, arithmetic, if_zero}
 use Rattle.ideal_machine.specs.Reaches.{Reaches}
 use Rattle.ideal_machine.proofs.Runs.{both_reply, one_reply, run_later}

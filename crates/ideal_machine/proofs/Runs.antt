@@ -1,9 +1,9 @@
 -- Laws of running a play: each is an induction over the constructors of a play, and knows no event.
-use Rattle.std.proofs.Common.{◌≡◌, ℕ, zero, suc, ◌+◌, ◌≤◌, List, [], ◌∷◌, ◌++◌, length, Option, Some, None, refl, sym, ◌∙◌, ap, arith, append_assoc, append-nil, length-append}
+use Rattle.std.proofs.Common.{◌≡◌, ℕ, ◌+◌, ◌≤◌, List, [], ◌∷◌, ◌++◌, length, Option, Some, None, refl, sym, ◌∙◌, ap, arith, append_assoc, append-nil, length-append}
 use Rattle.ideal_machine.specs.declared.event.Event.{Event}
 use Rattle.ideal_machine.specs.declared.event.Answer.{Answer}
 use Rattle.ideal_machine.specs.Queries.{Query, Reply, reply_to, event_of}
-use Rattle.ideal_machine.specs.Play.{Stop, Finished, Waits, Cut, Play, Gives, Stops, Asks, Jump, Call, bind, Log, with_event, with_jump, with_call, Behaviour, Goes, Ends, log_of, by_reply, run_query, run}
+use Rattle.ideal_machine.specs.Play.{Finished, Waits, Cut, Play, Gives, Stops, Asks, Jump, Call, bind, Log, with_event, with_jump, with_call, Behaviour, Goes, Ends, log_of, by_reply, run_query, run}
 use Rattle.ideal_machine.specs.Reaches.{IsLater, Reaches}
 
 -- ---- taking an answer

@@ -93,8 +93,8 @@ abbrev pub with_slot : Memory → ℕ → (Slot → Slot) → Memory
 with_slot memory n change = record memory { slots = slots_with memory.slots n change (slice_get memory.slots n) }
 
 -- a slot with its thread in this state
-abbrev pub in_state : SlotState → Slot → Slot
-in_state state slot = record slot { state = state }
+abbrev pub at_state : SlotState → Slot → Slot
+at_state state slot = record slot { state = state }
 
 -- a slot that is free for the next thread
 abbrev pub next_generation : Slot → Slot
@@ -111,9 +111,9 @@ with_finish memory finish = record memory { finish = Some finish }
 -- what an actor's event with this answer leaves
 abbrev pub effect_of : Memory → ℕ → Event → Answer → Memory
 effect_of memory actor (Spawn function address half) (Number id) =
-    with_slot memory (id % 64) (in_state (Started function address half))
-effect_of memory actor (Begin function address half) Done = with_slot memory actor (in_state Running)
-effect_of memory actor (End result) Done = with_slot memory actor (in_state (Ended result))
+    with_slot memory (id % 64) (at_state (Started function address half))
+effect_of memory actor (Begin function address half) Done = with_slot memory actor (at_state Running)
+effect_of memory actor (End result) Done = with_slot memory actor (at_state (Ended result))
 effect_of memory actor (Join id) (Number result) = with_slot memory (id % 64) next_generation
 effect_of memory actor (Out byte) Done = with_byte memory byte
 effect_of memory actor Input (Number byte) = record memory { input_taken = memory.input_taken + 1 }

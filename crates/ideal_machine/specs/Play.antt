@@ -7,7 +7,7 @@
 -- A play gives a state and a value of any type, and `bind` is the only way to put one after another. Every definition of
 -- a play has a bound, since a loop may go on for ever: where the bound is reached the play is cut. A mark stands
 -- where code jumps back, and where a function is called, so `run` counts both.
-use Rattle.std.specs.Prelude.{◌≡◌, ℕ, ◌+◌, List, [], ◌∷◌, ◌++◌, Option, Some, None}
+use Rattle.std.specs.Prelude.{ℕ, ◌+◌, List, [], ◌∷◌, ◌++◌, Option, Some, None}
 use Rattle.ideal_machine.specs.declared.finish.Finish.{Finish}
 use Rattle.ideal_machine.specs.declared.event.Event.{Event}
 use Rattle.ideal_machine.specs.declared.event.Answer.{Answer}

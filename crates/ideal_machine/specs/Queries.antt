@@ -3,7 +3,7 @@
 -- Each query has a type of replies, and a thread goes on by a reply of that type: nothing is said of answers that can't come.
 -- Two functions tie this to histories. `reply_to` says which reply an answer is, if it fits, and `event_of` which event
 -- a query has made once it is replied to.
-use Rattle.std.specs.Prelude.{ℕ, true, Option, Some, None, Result, Ok, Err, Bool}
+use Rattle.std.specs.Prelude.{ℕ, true, Option, Some, None, Result, Ok, Err}
 use Rattle.filc_num.specs.declared.reason.Reason.{Reason}
 use Rattle.filc_num.specs.declared.reason.Reason.TheVariants.{OutputLimit, NoCell}
 use Rattle.ideal_machine.specs.declared.value.Half.{Half}
@@ -110,6 +110,7 @@ object_reply answer = None
 
 abbrev pub size_reply : Answer → Option (Result ℕ Reason)
 size_reply (Number bytes) = Some (Ok bytes)
+size_reply (Refused NoCell) = None
 size_reply (Refused reason) = Some (Err reason)
 size_reply answer = None
 

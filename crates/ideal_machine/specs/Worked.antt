@@ -1,14 +1,14 @@
 -- Worked examples of the transitions, in the first memory of a program whose `main` has number 0, and of replies.
-use Rattle.std.specs.Prelude.{◌≡◌, ℕ, [], ◌∷◌, true, Option, Some, None, slice_get}
+use Rattle.std.specs.Prelude.{◌≡◌, ℕ, [], ◌∷◌, true, Some, None, slice_get}
 use Rattle.filc_num.specs.declared.reason.Reason.TheVariants.{OutputLimit, Divide, NoCell}
 use Rattle.ideal_machine.specs.declared.value.Half.{Half}
 use Rattle.ideal_machine.specs.declared.value.Half.TheVariants.{Nothing}
 use Rattle.ideal_machine.specs.declared.finish.Finish.TheVariants.{Exited}
 use Rattle.ideal_machine.specs.declared.event.Event.TheVariants.{Check, Lock, Out, Input, Spawn, Begin, End, Join, Trap}
 use Rattle.ideal_machine.specs.declared.event.Answer.TheVariants.{Granted, Refused, Done, Number, Absent, End as InputEnd}
-use Rattle.ideal_machine.specs.Memory.{Memory, World, Slot, Free, Started, Running, Ended, default_world, first_memory, thread_id}
+use Rattle.ideal_machine.specs.Memory.{Memory, World, Started, default_world, first_memory, thread_id}
 use Rattle.ideal_machine.specs.Allows.{IsAllowed, effect_of, with_finish}
-use Rattle.ideal_machine.specs.Queries.{Query, Makes, ChecksForCell, Locks, reply_to, event_of, Taken, CheckedAgain}
+use Rattle.ideal_machine.specs.Queries.{Makes, ChecksForCell, Locks, reply_to, event_of, Taken, CheckedAgain}
 
 -- a run whose input is the letter A
 abbrev pub world : World

@@ -15,7 +15,7 @@ use Rattle.ideal_machine.specs.Play.{Gives, bind}
 use Rattle.ideal_machine.specs.Phrases.{Phrase, if_zero, unless_refused, operator_result, arithmetic_result}
 use Rattle.code_thread.specs.Exec.{Next, go_to, act, act_at, exec, exec_called, exec_thread}
 use Rattle.single_thread.specs.Alone.{made_by, jumps_by, main_start}
-use Rattle.single_thread.proofs.Gained.{by_room, out_jumps}
+use Rattle.single_thread.proofs.Gained.{out_jumps}
 
 module _ (world : World) where
   -- fewer jumps than m, or at most m and no event

@@ -3,28 +3,27 @@
 -- The machine allows each entry, since each has the machine's own answer. The code makes the history's events on its
 -- answers and takes them all. So the C text's play, which makes these events and maybe more, makes no more: each event
 -- takes an answer, and none is left.
-use Rattle.std.proofs.Common.{◌≡◌, inl, ⊎_elim, ℕ, zero, suc, ◌+◌, ◌≤◌, List, [], ◌∷◌, length, None, Bool, true, false, Option, Some, refl, sym, ◌∙◌, ap, subst, arith}
+use Rattle.std.proofs.Common.{◌≡◌, inl, ⊎_elim, ℕ, ◌+◌, ◌≤◌, [], ◌∷◌, length, None, Some, refl, sym, ◌∙◌, ap, subst, arith}
 use Rattle.std.specs.Prelude.{nat_lt}
 use Rattle.std.proofs.lemmas.Bool.{ltb-true, ltb-false}
 use Rattle.std.proofs.lemmas.List.Elements.{All-nil}
 use Rattle.c_tree.specs.Plain.{PlainProgram}
 use Rattle.filc_code.specs.Plain.{PlainCode}
 use Rattle.ideal_machine.specs.declared.value.Half.TheVariants.{Nothing}
-use Rattle.ideal_machine.specs.declared.event.Event.{Event}
 use Rattle.ideal_machine.specs.declared.event.Event.TheVariants.{Out, Exit, Trap}
 use Rattle.ideal_machine.specs.Memory.{Memory, World, first_memory, address_in, thread_id}
 use Rattle.ideal_machine.specs.Allows.{IsRunning}
 use Rattle.ideal_machine.specs.Queries.{Makes}
-use Rattle.ideal_machine.specs.Play.{Gives, Stops, Asks, Jump, Call, Finished, fresh_log, log_of, run}
+use Rattle.ideal_machine.specs.Play.{Gives, Stops, Asks, Jump, Call, Finished, fresh_log, log_of}
 use Rattle.ideal_machine.specs.Phrases.{Start, Phrase}
 use Rattle.ideal_machine.specs.Reaches.{Reaches}
 use Rattle.ideal_machine.proofs.Runs.{run_count, reached_events, no_length}
 use Rattle.tree_play.specs.TreePlay.{play_thread, play}
-use Rattle.tree_play.specs.Legal.{History, last_memory, AreAllowed, moments, thread_moments, answers_of, AreShown, IsPlayed, ThreadsPlay, IsLegalHistory}
+use Rattle.tree_play.specs.Legal.{History, last_memory, AreAllowed, moments, AreShown, IsPlayed, ThreadsPlay, IsLegalHistory}
 use Rattle.tree_play.proofs.More.{more_rounds}
 use Rattle.code_thread.specs.Exec.{exec_thread, code_events}
 use Rattle.code_gen.specs.Correct.{Plays}
-use Rattle.single_thread.specs.Alone.{entry_of, made_by, main_start, main_begin, memory_after_begin, history_of_run, jumps_of_run}
+use Rattle.single_thread.specs.Alone.{made_by, main_start, main_begin, memory_after_begin, history_of_run, jumps_of_run}
 use Rattle.single_thread.specs.Runs.{RunsAreLegal, RunsAreLegalByTurns}
 use Rattle.single_thread.proofs.Lone.{IsOver, IsLone, thread_lone}
 use Rattle.single_thread.proofs.Gained.{by_room, out_made, events_of, entry_answers, lone_gains}

@@ -1,6 +1,6 @@
 -- Plays of one thread: they ask only to put out bytes and to end the program, and make nothing after that. The play
 -- of code from `main` on is one.
-use Rattle.std.proofs.Common.{◌≡◌, ℕ, zero, suc, ◌+◌, List, Option, Some, None, Bool, true, false, Result, Ok, Err, refl, subst, sym, eq-eqb}
+use Rattle.std.proofs.Common.{ℕ, zero, suc, ◌+◌, List, Option, Some, None, Bool, true, false, Result, Ok, Err, refl, subst, sym, eq-eqb}
 use Rattle.std.specs.Prelude.{slice_get, nat_lt}
 use Rattle.filc_num.specs.declared.integer.ArithFault.{ArithFault}
 use Rattle.filc_num.specs.declared.reason.Reason.{Reason}
@@ -10,7 +10,6 @@ use Rattle.filc_code.specs.declared.op.Op.TheVariants.{Const, Move, Binary, Jump
 use Rattle.filc_code.specs.Plain.{PlainFunction, PlainCode}
 use Rattle.filc_code.specs.Numbers.{operator_at, type_at}
 use Rattle.ideal_machine.specs.declared.value.Value.{Value}
-use Rattle.ideal_machine.specs.declared.event.Event.{Event}
 use Rattle.ideal_machine.specs.declared.event.Event.TheVariants.{Out, Exit, Trap}
 use Rattle.ideal_machine.specs.Values.{integer, value_at, put_at}
 use Rattle.ideal_machine.specs.Queries.{Makes}

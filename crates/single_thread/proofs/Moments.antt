@@ -1,18 +1,16 @@
 -- The moments of the one thread: all entries of its history after its beginning are its own, and none begins another.
-use Rattle.std.proofs.Common.{◌≡◌, ℕ, List, [], ◌∷◌, length, cond, Bool, true, false, Option, Some, None, refl, ◌∙◌, ap, eq-eqb}
-use Rattle.std.specs.Prelude.{◌==◌, filter, map, nat_lt, if◌then◌else◌}
-use Rattle.filc_num.specs.declared.reason.Reason.{Reason}
+use Rattle.std.proofs.Common.{◌≡◌, ℕ, List, [], ◌∷◌, length, cond, Bool, false, Some, None, refl, ◌∙◌, ap, eq-eqb}
+use Rattle.std.specs.Prelude.{◌==◌, filter, nat_lt, if◌then◌else◌}
 use Rattle.c_tree.specs.Plain.{PlainProgram}
 use Rattle.ideal_machine.specs.declared.event.Event.{Event}
 use Rattle.ideal_machine.specs.declared.event.Event.TheVariants.{Out, Begin, Exit, Trap}
-use Rattle.ideal_machine.specs.declared.event.Answer.{Answer}
 use Rattle.ideal_machine.specs.Memory.{Memory, World}
 use Rattle.ideal_machine.specs.Queries.{Makes}
 use Rattle.ideal_machine.specs.Play.{Gives, Stops, Asks, Jump, Call, Finished}
 use Rattle.ideal_machine.specs.Phrases.{Phrase}
 use Rattle.ideal_machine.proofs.Names.{shown_self}
-use Rattle.tree_play.specs.Legal.{Entry, History, memory_after, Moment, moments, is_begin, until_begin, thread_moments, answers_of, AreShown, BeginIsPlayed, ThreadsPlay}
-use Rattle.single_thread.specs.Alone.{memory_with, made_by}
+use Rattle.tree_play.specs.Legal.{History, memory_after, Moment, moments, is_begin, until_begin, thread_moments, answers_of, AreShown, BeginIsPlayed, ThreadsPlay}
+use Rattle.single_thread.specs.Alone.{made_by}
 use Rattle.single_thread.proofs.Lone.{IsOver, IsLone}
 use Rattle.single_thread.proofs.Gained.{by_room, out_made, events_of, entry_answers}
 

@@ -1,5 +1,5 @@
 -- A turn leaves to the outside what it would have seen: by the law that a thread's calls follow the play of its code.
-use Rattle.std.proofs.Common.{◌≡◌, ℕ, zero, suc, ◌+◌, ◌-◌, ◌<◌, ◌≤◌, List, [], ◌∷◌, ◌++◌, length, Option, Some, None, Bool, true, false, Result, Ok, Err, refl, sym, ◌∙◌, ap, subst, arith, append_assoc, append-nil, eq-eqb}
+use Rattle.std.proofs.Common.{◌≡◌, ℕ, suc, ◌+◌, ◌-◌, ◌<◌, ◌≤◌, List, [], ◌∷◌, ◌++◌, length, Option, Some, None, Bool, true, false, Result, Ok, Err, refl, sym, ◌∙◌, ap, subst, arith, append_assoc, append-nil, eq-eqb}
 use Rattle.std.specs.Prelude.{slice_get, option_and_then, nat_lt, ◌==◌}
 use Rattle.std.proofs.lemmas.Bool.{lt-ltb, le-ltb}
 use Rattle.filc_num.specs.declared.integer.ArithFault.{ArithFault}
@@ -18,17 +18,16 @@ use Rattle.ideal_machine.specs.declared.event.Answer.TheVariants.{Refused, Done}
 use Rattle.ideal_machine.specs.Queries.{Query, Makes, EventReply, event_reply, Reply, reply_to, wish_of}
 use Rattle.ideal_machine.specs.Play.{Stops, Asks, Cut}
 use Rattle.ideal_machine.specs.Phrases.{Phrase, trap}
-use Rattle.tree_play.specs.Observable.{Observable, bytes_of, finish_of, observable_of}
+use Rattle.tree_play.specs.Observable.{Observable, bytes_of, finish_of}
 use Rattle.code_thread.specs.declared.stage.Stage.{Stage}
-use Rattle.code_thread.specs.declared.stage.Stage.TheVariants.{Acts, PutsOut, Ends, Exits, Traps, Over}
+use Rattle.code_thread.specs.declared.stage.Stage.TheVariants.{Acts, PutsOut, Exits}
 use Rattle.code_thread.specs.declared.stage.Halt.TheVariants.{Finished}
 use Rattle.code_thread.specs.declared.stage.Want.TheVariants.{Event as WantEvent, Instruction as WantInstruction}
-use Rattle.code_thread.specs.Exec.{go_to, exec, exec_called, exec_thread, first_registers}
-use Rattle.code_thread.specs.Thread.{Thread, want_at, want_of, leave_stage, stage_of, stage_at, thread_at, thread_after_operation, registers_after, step_from, thread_after_step, answer_at, thread_after_answer, thread_after_begin, halt_play, plays_at, plays_on, is_trapping, step_play, IsThreadOf}
-use Rattle.code_thread.specs.Follows.{AsksThen, Follows}
+use Rattle.code_thread.specs.Exec.{go_to, exec_called, exec_thread, first_registers}
+use Rattle.code_thread.specs.Thread.{Thread, want_at, want_of, stage_of, stage_at, thread_at, thread_after_operation, registers_after, step_from, thread_after_step, answer_at, thread_after_answer, thread_after_begin, halt_play, plays_at, plays_on, IsThreadOf}
 use Rattle.code_thread.proofs.Threads.{instruction_inside, step_keeps, answer_keeps}
 use Rattle.code_thread.proofs.Follow.{thread_follows}
-use Rattle.single_thread.specs.Alone.{room_answer, made_by, memory_with, main_start, history_of_run, run_world, observable_of_run}
+use Rattle.single_thread.specs.Alone.{made_by, memory_with, main_start, run_world, observable_of_run}
 use Rattle.single_thread.specs.Turns.{memory_of, seen_by, plays_in, seen_from, seen_at_end, IsReadyAt, IsReady, trap_at, TurnTells}
 use Rattle.single_thread.proofs.Gained.{out_made}
 
@@ -200,13 +199,13 @@ module _ (code : PlainCode) (t : Thread) (r : IsReady code t) (output : List ℕ
       (sym a.2) (operation_tells a.0 a.1 (registers_after a.0 t.registers)) (step_keeps code t h) each
 
   -- what the thread's play asks, and how it goes on by each answer
-  record Asked (event : Event) (m : ℕ) : Type 0 where
+  record Wish (event : Event) (m : ℕ) : Type 0 where
     by : EventReply event → Phrase ℕ
     seen : seen_from code (suc m) t output ≡ seen_by code (Asks (Makes event) by) output
     then : (answer : Answer) (reply : EventReply event) → event_reply event answer ≡ Some reply → by reply ≡ plays_on f.instructions m (thread_after_answer code t answer)
 
-  asked : (event : Event) → IsPlain event → want_of t ≡ WantEvent event → (m : ℕ) → Asked event m
-  asked event plain w m =
+  wish : (event : Event) → IsPlain event → want_of t ≡ WantEvent event → (m : ℕ) → Wish event m
+  wish event plain w m =
       let a = (thread_follows code f h.formed).asks t m event h.there h w in
       let wanted = plain a.query a.next a.wish in
       record {
@@ -215,13 +214,15 @@ module _ (code : PlainCode) (t : Thread) (r : IsReady code t) (output : List ℕ
         then = λ answer reply fit. let own = wanted.then answer reply fit in sym own.2 ∙ a.then answer own.0 own.1;
       }
 
-  pub out_tells : (byte : ℕ) → want_of t ≡ WantEvent (Out byte) → length output < 1048576 → TurnTells code t output (trap_at (thread_after_answer code t Done).stage) (thread_after_answer code t Done) (output ++ byte ∷ [])
+  pub out_tells :
+      (byte : ℕ) → want_of t ≡ WantEvent (Out byte) → length output < 1048576 →
+      TurnTells code t output (trap_at (thread_after_answer code t Done).stage) (thread_after_answer code t Done) (output ++ byte ∷ [])
   out_tells byte w room =
       let p = puts_by t.stage byte w in
       let new = thread_after_answer code t Done in
       let bytes = output ++ byte ∷ [] in
       let each : (m : ℕ) → seen_from code (suc m) t output ≡ seen_by code (plays_on f.instructions m new) bytes = λ m.
-      let a = asked (Out byte) (out_plain byte) w m in
+      let a = wish (Out byte) (out_plain byte) w m in
       a.seen ∙ (seen_out code output byte a.by (lt-ltb (length output) 1048576 room) ∙ ap (λ q. seen_by code q bytes) (a.then Done None refl)) in
       subst
       (λ (s : Stage).
@@ -236,18 +237,18 @@ module _ (code : PlainCode) (t : Thread) (r : IsReady code t) (output : List ℕ
       let p = puts_by t.stage byte w in
       subst
       (λ (s : Stage).
-      ((m : ℕ) → (asked (Out byte) (out_plain byte) w m).by (Some OutputLimit) ≡ plays_on f.instructions m (answer_at code t s (Refused OutputLimit))) →
+      ((m : ℕ) → (wish (Out byte) (out_plain byte) w m).by (Some OutputLimit) ≡ plays_on f.instructions m (answer_at code t s (Refused OutputLimit))) →
       TurnTells code t output (trap_at (answer_at code t s (Refused OutputLimit)).stage) (answer_at code t s (Refused OutputLimit)) output)
       (sym p.1)
       (λ goes m.
-      let a = asked (Out byte) (out_plain byte) w m in
+      let a = wish (Out byte) (out_plain byte) w m in
       a.seen ∙ seen_full code output byte a.by p.0 (le-ltb (length output) 1048576 full) (goes m))
-      (λ m. (asked (Out byte) (out_plain byte) w m).then (Refused OutputLimit) (Some OutputLimit) refl)
+      (λ m. (wish (Out byte) (out_plain byte) w m).then (Refused OutputLimit) (Some OutputLimit) refl)
 
   pub exit_tells : (new : Thread) (status : ℕ) → want_of t ≡ WantEvent (Exit status) → TurnTells code t output (Some (Exited status)) new output
   exit_tells new status w m =
       let e = exits_by t.stage status w in
-      let a = asked (Exit status) (exit_plain status) w m in
+      let a = wish (Exit status) (exit_plain status) w m in
       let ends : a.by tt ≡ halt_play (Finished (Exited status)) =
       a.then Done tt refl ∙ ap (λ (s : Stage). plays_on f.instructions m (answer_at code t s Done)) e in
       a.seen ∙ seen_exit code output status a.by (Exited status) ends
@@ -272,13 +273,14 @@ record Begins (code : PlainCode) (main : Bool) : Type 0 where
 
 module _ (code : PlainCode) where
   begins : (main : Bool) → main ≡ true → main ≡ (code.main == code.main) → IsThreadOf code (thread_at code code.main main 0 first_registers) → Begins code main
-  begins main is same h = record {
-    ready = comes_ready code code.main main 0 first_registers is h;
-    seen = λ m.
-        seen_here code h.running m (thread_at code code.main main 0 first_registers) [] h.there
-        ∙ ap (λ p. seen_by code p []) (subst (λ (b : Bool). plays_on h.running.instructions m (thread_at code code.main b 0 first_registers) ≡ exec_called b (slice_get code.functions code.main) m) (sym same)
-        ((thread_follows code h.running h.formed).begins (main_start code) m h.there));
-  }
+  begins main is same h =
+      let plays = λ (m : ℕ).
+      subst (λ (b : Bool). plays_on h.running.instructions m (thread_at code code.main b 0 first_registers) ≡ exec_called b (slice_get code.functions code.main) m)
+      (sym same) ((thread_follows code h.running h.formed).begins (main_start code) m h.there) in
+      record {
+        ready = comes_ready code code.main main 0 first_registers is h;
+        seen = λ m. seen_here code h.running m (thread_at code code.main main 0 first_registers) [] h.there ∙ ap (λ p. seen_by code p []) (plays m);
+      }
 
   history_seen : (m : ℕ) → seen_by code (exec_thread m code (main_start code)) [] ≡ observable_of_run m code
   unfolding seen_by

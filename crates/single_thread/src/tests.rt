@@ -84,13 +84,7 @@ fn runs_end_at_their_turn(rt: HostRuntime) -> Result<(), Fail> {
         ("more turns than needed", &letters, 9, status_3, 2),
         ("before the division", &division, 2, None, 0),
         ("the division", &division, 3, divided, 0),
-        (
-            "the output is full",
-            &endless,
-            2_097_152,
-            None,
-            1_048_576,
-        ),
+        ("the output is full", &endless, 2_097_152, None, 1_048_576),
         ("one byte more", &endless, 2_097_153, full, 1_048_576),
     ] {
         let mut output = Vec::with_capacity(alloc, MOST_BYTES)?;

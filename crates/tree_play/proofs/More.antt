@@ -7,15 +7,15 @@ use Rattle.c_tree.specs.declared.program.FunctionDef.{FunctionDef}
 use Rattle.c_tree.specs.Plain.{PlainProgram}
 use Rattle.ideal_machine.specs.declared.value.Value.{Value}
 use Rattle.ideal_machine.specs.declared.event.Event.{Event}
-use Rattle.ideal_machine.specs.declared.event.Event.TheVariants.{Check, GetInt, SetInt, RmwInt, CasInt, GetHalf, Open, SetHalf, CasHalf, New, Void, Size, Name, Lock, Out, Input, Spawn, Begin, End, Join, Collected, Exit, Trap}
+use Rattle.ideal_machine.specs.declared.event.Event.TheVariants.{Begin}
 use Rattle.ideal_machine.specs.Memory.{Memory, thread_id}
 use Rattle.ideal_machine.specs.Values.{State, zero_value}
-use Rattle.ideal_machine.specs.Play.{Gives, Jump, bind, fresh_log, log_of, run}
-use Rattle.ideal_machine.specs.Phrases.{Start, leave, if_zero}
+use Rattle.ideal_machine.specs.Play.{Gives, Jump, bind, fresh_log, log_of}
+use Rattle.ideal_machine.specs.Phrases.{Start, leave}
 use Rattle.ideal_machine.proofs.Runs.{run_count, reached_events}
 use Rattle.ideal_machine.proofs.Cuts.{IsCutOf, cut_self, bind_cut, zero_cut, cut_reaches}
 use Rattle.tree_play.specs.TreePlay.{Around, Flow, Normal, Broke, Continued, Returned, TextPlay, play_expr, on_normal, after_body, loop, with_zeros, play_stmt, play_stmts, result_of, play_called, around_of, play_thread, play}
-use Rattle.tree_play.specs.Legal.{Entry, History, memory_after, Moment, moments, thread_moments, answers_of, AreShown, IsPlayed, BeginIsPlayed, ThreadsPlay, IsLegalHistory}
+use Rattle.tree_play.specs.Legal.{History, memory_after, Moment, moments, thread_moments, answers_of, AreShown, IsPlayed, BeginIsPlayed, ThreadsPlay}
 use Rattle.tree_play.specs.MoreRounds.{MoreRounds}
 
 -- ---- plays
@@ -104,7 +104,9 @@ module _ (n n' : ℕ) (le : n ≤ n') (program : PlainProgram) where
       omega (arith, run_count (play_thread n' program start) w, shown_length (log_of o).events made h, answers_length made) in
       subst (λ (events : List Event). AreShown events made) (sym (reached_events o p r few)) h
 
-  begin_more : (base : ℕ → ℕ) (memory : Memory) (slot : ℕ) (event : Event) (made : List Moment) → BeginIsPlayed n program base memory slot event made → BeginIsPlayed n' program base memory slot event made
+  begin_more :
+      (base : ℕ → ℕ) (memory : Memory) (slot : ℕ) (event : Event) (made : List Moment) →
+      BeginIsPlayed n program base memory slot event made → BeginIsPlayed n' program base memory slot event made
   begin_more base memory slot (Begin function address half) made h =
       let start : Start =
       record { id = thread_id memory slot; function = function; argument = record { number = address; half = half }; base = base } in

@@ -1,5 +1,5 @@
 -- Worked examples of legal histories, of the program `int main(void){return 3;}`.
-use Rattle.std.specs.Prelude.{◌≡◌, ℕ, [], ◌∷◌}
+use Rattle.std.specs.Prelude.{ℕ, [], ◌∷◌}
 use Rattle.filc_num.specs.declared.integer.IntType.TheVariants.{I32}
 use Rattle.c_tree.specs.declared.expr.Expr.TheVariants as expr
 use Rattle.c_tree.specs.declared.stmt.Stmt.TheVariants as stmt

@@ -14,7 +14,10 @@ use Rattle.code_gen.proofs.Program.{code_plays}
 use Rattle.code_gen.proofs.compile.Goals as goal
 
 -- after the last function
-whole : (made : List CodeFunction) (items : List FunctionDef) (i main : ℕ) (program : PlainProgram) → map plain_function made ≡ map function_code (take i items) → length items ≤ i → items ≡ program.functions → main ≡ program.main → plain_code made main ≡ program_code program
+whole :
+    (made : List CodeFunction) (items : List FunctionDef) (i main : ℕ) (program : PlainProgram) →
+    map plain_function made ≡ map function_code (take i items) → length items ≤ i → items ≡ program.functions → main ≡ program.main →
+    plain_code made main ≡ program_code program
 whole made items i main program e past same_items same_main =
     let functions = e ∙ ap (λ l. map function_code l) (take_all i items past ∙ same_items) in
     λ j. record { functions = functions j; main = same_main j }

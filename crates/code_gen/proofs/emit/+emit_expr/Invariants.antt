@@ -1,3 +1,4 @@
+-- A chain is emitted link by link.
 use Rattle.std.proofs.Common.{◌≡◌, ◌<◌, ◌+◌, ◌++◌, drop}
 use Rattle.filc_num.specs.declared.registers.TheConstants.{REGISTERS}
 use Rattle.c_tree.specs.Lists.{list_temps}

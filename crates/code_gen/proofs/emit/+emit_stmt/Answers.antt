@@ -51,7 +51,7 @@ returns-in_ok-end-in-While t c =
     let body = c.in_ok-emit_stmt-in-While.ensures ∙ ap (λ s. c2 ++ stmt_code s k (length c2)) c.get.ensures ∙ ap (λ n. c2 ++ stmt_code c.in-While.body k n) inside in
     let back = c.in_ok-put-in-While-2.ensures in
     ap (λ i. slice_set c.put-in-While-2.new.code.items c.len-exit.result i) c.instruction.ensures
-    ∙ patch_while line k start c.len-exit.result c.in_ok-end-in-While.end base ct cb c1 c2 _ _ _ at c.in_ok-emit_expr-in-While.ensures
+    ∙ patch_while line k start base ct cb c1 c2 _ _ _ c.len-exit.result c.in_ok-end-in-While.end at c.in_ok-emit_expr-in-While.ensures
     (c.len-exit.ensures ∙ c.emit_expr-in-While.new.code.ok.0) c.in_ok-put-in-While.ensures body back c.in_ok-end-in-While.ensures
     ∙ ap (λ n. base ++ while_code line k n ct cb) at
     ∙ ap (λ b. base ++ b) (sym (loop_code line c.in-While.test c.in-While.body k (length base)))

@@ -1,3 +1,4 @@
+-- A block is emitted statement by statement.
 use Rattle.std.proofs.Common.{◌≡◌, ◌<◌, ◌+◌, ◌++◌, drop, length}
 use Rattle.filc_num.specs.declared.registers.TheConstants.{REGISTERS}
 use Rattle.c_tree.specs.Lists.{stmt_list_temps}

@@ -1,3 +1,4 @@
+-- A byte was put out, or the output had no room for it.
 use Rattle.std.proofs.Common.{◌<◌, ◌≤◌, length, ap, ◌∙◌, arith}
 use Rattle.single_thread.proofs.Turns.{out_tells, full_tells, turn_is}
 use Rattle.single_thread.proofs.runner.put_out.Goals as goal
