@@ -1,5 +1,6 @@
 pub mod Runs
 pub mod Cuts
+pub mod Fewer
 pub mod Replies
 pub mod Names
 pub mod Values

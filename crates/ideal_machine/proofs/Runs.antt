@@ -57,7 +57,7 @@ later_on u v w h k = record {
   calls = omega (arith, h.calls, k.calls);
 }
 
-later_by_event : (e : Event) (rest : List Answer) (w : Log) → IsLater w (with_event e rest w)
+pub later_by_event : (e : Event) (rest : List Answer) (w : Log) → IsLater w (with_event e rest w)
 later_by_event e rest w = record { events = (e ∷ [], refl); jumps = omega arith; calls = omega arith }
 
 later_by_jump : (w : Log) → IsLater w (with_jump w)

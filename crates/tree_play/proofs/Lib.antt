@@ -1,2 +1,4 @@
 pub mod Far
 pub mod More
+mod Beginnings
+mod EndsLast

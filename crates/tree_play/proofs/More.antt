@@ -8,14 +8,14 @@ use Rattle.c_tree.specs.Plain.{PlainProgram}
 use Rattle.ideal_machine.specs.declared.value.Value.{Value}
 use Rattle.ideal_machine.specs.declared.event.Event.{Event}
 use Rattle.ideal_machine.specs.declared.event.Event.TheVariants.{Begin}
-use Rattle.ideal_machine.specs.Memory.{Memory, thread_id}
+use Rattle.ideal_machine.specs.Memory.{Memory}
 use Rattle.ideal_machine.specs.Values.{State, zero_value}
 use Rattle.ideal_machine.specs.Play.{Gives, Jump, bind, fresh_log, log_of}
 use Rattle.ideal_machine.specs.Phrases.{Start, leave}
 use Rattle.ideal_machine.proofs.Runs.{run_count, reached_events}
 use Rattle.ideal_machine.proofs.Cuts.{IsCutOf, cut_self, bind_cut, zero_cut, cut_reaches}
 use Rattle.tree_play.specs.TreePlay.{Around, Flow, Normal, Broke, Continued, Returned, TextPlay, play_expr, on_normal, after_body, loop, with_zeros, play_stmt, play_stmts, result_of, play_called, around_of, play_thread, play}
-use Rattle.tree_play.specs.Legal.{History, memory_after, Moment, moments, thread_moments, answers_of, AreShown, IsPlayed, BeginIsPlayed, ThreadsPlay}
+use Rattle.tree_play.specs.Legal.{History, memory_after, Moment, moments, thread_moments, answers_of, AreShown, IsPlayed, start_of, BeginIsPlayed, ThreadsPlay}
 use Rattle.tree_play.specs.MoreRounds.{MoreRounds}
 
 -- ---- plays
@@ -74,22 +74,29 @@ module _ (around around' : Around) (le : around.rounds ≤ around'.rounds) where
       bind_cut (play_stmt around f.body first) (play_stmt around' f.body first) (λ _ flow. Gives tt (result_of flow)) (λ _ flow. Gives tt (result_of flow))
       (stmt_cut f.body first) (λ st v. refl)
 
-thread_cut : (n n' : ℕ) → n ≤ n' → (program : PlainProgram) (start : Start) → IsCutOf (play_thread n program start) (play_thread n' program start)
-thread_cut n n' le program start =
+-- a thread with a greater bound, and another id, argument and addresses
+pub thread_cut :
+    (n n' : ℕ) → n ≤ n' → (program : PlainProgram) (start start' : Start) → start.function ≡ start'.function →
+    IsCutOf (play_thread n program start) (play_thread n' program start')
+thread_cut n n' le program start start' same =
     let main = start.function == program.main in
     let o = slice_get program.functions start.function in
-    bind_cut (play_called (around_of n start) o) (play_called (around_of n' start) o) (λ _ v. leave main v) (λ _ v. leave main v)
-    (called_cut (around_of n start) (around_of n' start) le o) (λ _ v. cut_self (leave main v))
+    subst
+    (λ (f : ℕ).
+    IsCutOf (play_thread n program start) (bind (play_called (around_of n' start') (slice_get program.functions f)) (λ _ v. leave (f == program.main) v)))
+    same
+    (bind_cut (play_called (around_of n start) o) (play_called (around_of n' start') o) (λ _ v. leave main v) (λ _ v. leave main v)
+    (called_cut (around_of n start) (around_of n' start') le o) (λ _ v. cut_self (leave main v)))
 
 -- ---- histories
 
-shown_length : (events : List Event) (made : List Moment) → AreShown events made → length events ≡ length made
+pub shown_length : (events : List Event) (made : List Moment) → AreShown events made → length events ≡ length made
 shown_length [] [] h = refl
 shown_length [] (m ∷ made) h = absurd h
 shown_length (e ∷ events) [] h = absurd h
 shown_length (e ∷ events) (m ∷ made) h = ap suc (shown_length events made h.1)
 
-answers_length : (made : List Moment) → length (answers_of made) ≡ length made
+pub answers_length : (made : List Moment) → length (answers_of made) ≡ length made
 answers_length [] = refl
 answers_length (m ∷ made) = ap suc (answers_length made)
 
@@ -99,7 +106,7 @@ module _ (n n' : ℕ) (le : n ≤ n') (program : PlainProgram) where
       let w = fresh_log (answers_of made) in
       let o = play n program start (answers_of made) in
       let p = play n' program start (answers_of made) in
-      let r = cut_reaches (play_thread n program start) (play_thread n' program start) w (thread_cut n n' le program start) in
+      let r = cut_reaches (play_thread n program start) (play_thread n' program start) w (thread_cut n n' le program start start refl) in
       let few : length (log_of p).events ≤ length (log_of o).events =
       omega (arith, run_count (play_thread n' program start) w, shown_length (log_of o).events made h, answers_length made) in
       subst (λ (events : List Event). AreShown events made) (sym (reached_events o p r few)) h
@@ -108,9 +115,7 @@ module _ (n n' : ℕ) (le : n ≤ n') (program : PlainProgram) where
       (base : ℕ → ℕ) (memory : Memory) (slot : ℕ) (event : Event) (made : List Moment) →
       BeginIsPlayed n program base memory slot event made → BeginIsPlayed n' program base memory slot event made
   begin_more base memory slot (Begin function address half) made h =
-      let start : Start =
-      record { id = thread_id memory slot; function = function; argument = record { number = address; half = half }; base = base } in
-      played_more start made h
+      played_more (start_of memory slot function address half base) made h
   begin_more base memory slot event made h = tt
 
   threads_more : (base : ℕ → ℕ) (memory : Memory) (history : History) → ThreadsPlay n program base memory history → ThreadsPlay n' program base memory history

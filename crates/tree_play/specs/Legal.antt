@@ -5,6 +5,7 @@
 -- its C text on the answers that it got.
 use Rattle.std.specs.Prelude.{ℕ, ◌==◌, List, [], ◌∷◌, Bool, true, false, map, filter, if◌then◌else◌}
 use Rattle.c_tree.specs.Plain.{PlainProgram}
+use Rattle.ideal_machine.specs.declared.value.Half.{Half}
 use Rattle.ideal_machine.specs.declared.event.Event.{Event}
 use Rattle.ideal_machine.specs.declared.event.Event.TheVariants.{Begin}
 use Rattle.ideal_machine.specs.declared.event.Answer.{Answer}
@@ -80,12 +81,19 @@ AreShown events made = ⊥
 abbrev pub IsPlayed : ℕ → PlainProgram → Start → List Moment → Type 0
 IsPlayed n program start made = AreShown (log_of (play n program start (answers_of made))).events made
 
--- where an event begins a thread in a slot, what follows is played; the thread's id is that of its slot and generation
+-- what a thread is begun with in a slot: its id is that of the slot and its generation
+abbrev pub start_of : Memory → (slot function address : ℕ) → Half → (ℕ → ℕ) → Start
+start_of memory slot function address half base = record {
+  id = thread_id memory slot;
+  function = function;
+  argument = record { number = address; half = half };
+  base = base;
+}
+
+-- where an event begins a thread in a slot, what follows is played
 abbrev pub BeginIsPlayed : ℕ → PlainProgram → (ℕ → ℕ) → Memory → ℕ → Event → List Moment → Type 0
 BeginIsPlayed n program base memory slot (Begin function address half) made =
-    IsPlayed n program
-    (record { id = thread_id memory slot; function = function; argument = record { number = address; half = half }; base = base })
-    made
+    IsPlayed n program (start_of memory slot function address half base) made
 BeginIsPlayed n program base memory slot event made = Unit {0}
 
 -- wherever a thread begins, what it makes is played

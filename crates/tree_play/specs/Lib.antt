@@ -2,4 +2,6 @@ pub mod TreePlay
 pub mod Legal
 pub mod Observable
 pub mod MoreRounds
+pub mod Beginnings
+pub mod EndsLast
 pub mod Worked

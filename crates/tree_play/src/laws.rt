@@ -1,11 +1,23 @@
 //! Laws of legal histories.
 
+ghost use Rattle.tree_play.specs.Beginnings.{BeginningsAreLegal};
+ghost use Rattle.tree_play.specs.EndsLast.{NothingFollowsAnEnd};
 ghost use Rattle.tree_play.specs.MoreRounds.{MoreRounds};
 ghost use Rattle.tree_play.specs.Worked.{MainReturns, NothingElse, NothingAfterExit, NoSecondBegin};
 
 /// A history stays legal where each loop may make more rounds.
 pub fn histories_stay_legal()
     ensures { MoreRounds }
+{}
+
+/// Each beginning of a legal history is legal.
+pub fn beginnings_are_legal()
+    ensures { BeginningsAreLegal }
+{}
+
+/// A thread makes nothing after it ended itself or the program.
+pub fn nothing_follows_an_end()
+    ensures { NothingFollowsAnEnd }
 {}
 
 /// A worked example: the histories of a program that returns 3.
