@@ -70,7 +70,8 @@ fn arrive(function: &CodeFunction, main: bool, index: usize, registers: &Vec<Val
     requires index { index < length function.now.instructions.items }
     requires registers { length registers.now.items ≡ REGISTERS }
     requires formed { IsFunctionWellFormed (plain_function function.now) }
-    ensures { result ≡ stage_at main (slice_get function.now.instructions.items index) registers.now.items }
+    ensures { result ≡ stage_at main
+        (slice_get function.now.instructions.items index) registers.now.items }
 {
     let instruction = function.instructions[index];
     act::stage_before(main, instruction.op, instruction.line, registers)

@@ -16,7 +16,7 @@ use code_thread::CodeThread;
 use filc_io::{FileFault, Files, Sink, Source, write_all_of};
 use form_reader::{ReadFault, read};
 use ideal_machine::Finish;
-use single_thread::{MOST_BYTES, laws, run};
+use single_thread::{MOST_OUTPUT_BYTES, laws, run};
 use std::alloc::Global;
 
 /// Carries out the words that stand after the program's name. The input is not read yet.
@@ -107,7 +107,7 @@ fn run_of(
 {
     let code = compile(alloc, program)?;
     let mut thread = CodeThread::new(alloc)?;
-    output.try_reserve(MOST_BYTES)?;
+    output.try_reserve(MOST_OUTPUT_BYTES)?;
     laws::runs_are_legal();
     laws::runs_are_unfinished();
     let finish = run(&code, u64::from(turns), &mut thread, output);

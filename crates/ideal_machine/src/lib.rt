@@ -2,8 +2,8 @@
 //! changes then.
 //!
 //! Its memory is as C sees it: a list of objects that only grows, the bytes put out, the threads'
-//! slots. It knows no code, no heap and no collector, and nothing is ever collected. The rest of the
-//! repository is measured against it: a run is right where its events, one after another, are
+//! slots. It knows no code, no heap and no collector, and nothing is ever collected. The rest of
+//! the repository is measured against it: a run is right where its events, one after another, are
 //! allowed here.
 //!
 //! Read `specs/Memory.antt` first, then `specs/Allows.antt`. `specs/Play.antt` says what a thread

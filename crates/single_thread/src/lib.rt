@@ -11,4 +11,4 @@ mod runner;
 #[cfg(test)]
 mod tests;
 
-pub use runner::{MOST_BYTES, run};
+pub use runner::{MOST_OUTPUT_BYTES, run};

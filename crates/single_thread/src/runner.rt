@@ -15,7 +15,7 @@ use filc_num::Reason;
 use ideal_machine::{Answer, Event, Finish};
 
 /// How many bytes can be put out.
-pub const MOST_BYTES: usize = 1_048_576;
+pub const MOST_OUTPUT_BYTES: usize = 1_048_576;
 
 /// The end of the program where the thread stands at a trap.
 fn trap_of(thread: &CodeThread) -> Option<Finish>
@@ -41,11 +41,11 @@ fn act(code: &Code, thread: &mut CodeThread, out: &Vec<u8>) -> Option<Finish>
 fn put_out(code: &Code, thread: &mut CodeThread, out: &mut Vec<u8>, byte: u8) -> Option<Finish>
     requires ready { IsReady code.now thread.old }
     requires wanted { want_of thread.old ≡ WantEvent (Out byte) }
-    requires room { MOST_BYTES ≤ vec_capacity out.old }
+    requires room { MOST_OUTPUT_BYTES ≤ vec_capacity out.old }
     ensures turn { TurnTells code.now thread.old out.old.items result thread.new out.new.items }
     ensures capacity { vec_capacity out.new ≡ vec_capacity out.old }
 {
-    if out.len() < MOST_BYTES {
+    if out.len() < MOST_OUTPUT_BYTES {
         out.push_reserved(byte);
         thread.answer(code, Answer::Done);
     } else {
@@ -57,7 +57,7 @@ fn put_out(code: &Code, thread: &mut CodeThread, out: &mut Vec<u8>, byte: u8) ->
 /// One turn: one instruction, with its events. It gives the end of the program, if it ended.
 fn turn(code: &Code, thread: &mut CodeThread, out: &mut Vec<u8>) -> Option<Finish>
     requires ready { IsReady code.now thread.old }
-    requires room { MOST_BYTES ≤ vec_capacity out.old }
+    requires room { MOST_OUTPUT_BYTES ≤ vec_capacity out.old }
     ensures turn { TurnTells code.now thread.old out.old.items result thread.new out.new.items }
     ensures capacity { vec_capacity out.new ≡ vec_capacity out.old }
 {
@@ -74,7 +74,7 @@ fn turn(code: &Code, thread: &mut CodeThread, out: &mut Vec<u8>) -> Option<Finis
 /// that can be, so the run takes no memory.
 pub fn run(code: &Code, turns: u64, thread: &mut CodeThread, out: &mut Vec<u8>) -> Option<Finish>
     requires empty { out.old.items ≡ [] }
-    requires room { MOST_BYTES ≤ vec_capacity out.old }
+    requires room { MOST_OUTPUT_BYTES ≤ vec_capacity out.old }
     ensures bytes { out.new.items ≡ (observable_of_run turns code.now).bytes }
     ensures finish { result ≡ (observable_of_run turns code.now).finish }
 {

@@ -24,7 +24,12 @@ fn at(op: Op) -> Instruction
 
 /// A program of these instructions, with two registers.
 fn code_of(alloc: Global, instructions: Vec<Instruction>) -> Result<Code, Fail>
-    requires { IsFunctionWellFormed (record { values = 2; parameters = 0; kind = 1; instructions = instructions.items }) }
+    requires { IsFunctionWellFormed (record {
+      values = 2;
+      parameters = 0;
+      kind = 1;
+      instructions = instructions.items;
+    }) }
 {
     let function = CodeFunction {
         values: 2,
@@ -87,7 +92,7 @@ fn runs_end_at_their_turn(rt: HostRuntime) -> Result<(), Fail> {
         ("the output is full", &endless, 2_097_152, None, 1_048_576),
         ("one byte more", &endless, 2_097_153, full, 1_048_576),
     ] {
-        let mut output = Vec::with_capacity(alloc, MOST_BYTES)?;
+        let mut output = Vec::with_capacity(alloc, MOST_OUTPUT_BYTES)?;
         assert_eq!(rt; run(code, turns, &mut thread, &mut output), end, "{name}");
         assert_eq!(rt; output.len(), bytes, "{name}");
     }
@@ -99,7 +104,7 @@ fn bytes_come_in_order(rt: HostRuntime) -> Result<(), Fail> {
     let alloc = rt.alloc();
     let code = letters(alloc)?;
     let mut thread = CodeThread::new(alloc)?;
-    let mut output = Vec::with_capacity(alloc, MOST_BYTES)?;
+    let mut output = Vec::with_capacity(alloc, MOST_OUTPUT_BYTES)?;
     assert_eq!(rt;
         run(&code, 100, &mut thread, &mut output),
         Some(Finish::Exited(3))

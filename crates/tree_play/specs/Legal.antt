@@ -107,8 +107,8 @@ ThreadsPlay n program base memory (entry ∷ rest) =
 -- ---- legal histories
 
 -- a history that a program may have, where each loop makes at most n rounds. The first memory has one started slot, that of
--- `main`, so its Begin comes first; and no play goes on after its Exit, Trap or End. Objects never move, so a
--- thread finds each one where the last memory has it
+-- `main`, so its Begin comes first. A thread plays nothing after its Exit, Trap or End, so whoever ended the program makes
+-- no event after that; others may make some. Objects never move, so a thread finds each one where the last memory has it
 pub record IsLegalHistory (history : History) (program : PlainProgram) (world : World) (n : ℕ) : Type 0 where
   pub allowed : AreAllowed world (first_memory world program.main) history
   pub played :
