@@ -1,6 +1,4 @@
-pub mod Places
+pub mod Halves
 pub mod Reading
 pub mod Writing
 pub mod Installing
-pub mod Inside
-pub mod There

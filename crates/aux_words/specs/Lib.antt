@@ -1,4 +1,4 @@
-pub mod Halves
+pub mod HalfSteps
 pub mod ReadHalf
 pub mod WriteHalf
 pub mod Install

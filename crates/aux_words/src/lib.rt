@@ -6,18 +6,18 @@
 //! and any other object has none as long as no capability was stored. Each half is got or set by
 //! one operation, so the two halves may come from two stores.
 //!
-//! Read `specs/Halves.antt` first. It says where the half of an object's word lies. The other files
-//! of specs/ have a piece each: what it wants, what it is after an answer, and what it tells.
+//! `object_header` says where the half of an object's word lies (`specs/Halves.antt`). Read that
+//! first, and then `specs/HalfSteps.antt`. The other files of specs/ have a piece each: what it
+//! wants, what becomes of it by an answer, and what one step means. `src/laws.rt` has the laws.
 #![tactic(auto)]
 
 mod install;
-mod laws;
+pub mod laws;
 mod read_half;
 #[cfg(test)]
 mod tests;
 mod write_half;
 
-pub use install::{Install, install_alone};
-pub use laws::{halves_are_there, no_piece_waits, places_are_inside};
-pub use read_half::{ReadHalf, read_half_alone};
-pub use write_half::{WriteHalf, write_half_alone};
+pub use install::Install;
+pub use read_half::ReadHalf;
+pub use write_half::WriteHalf;

@@ -2,9 +2,9 @@
 //! changes, so a wrong place shows whatever the specs call it.
 
 use crate::{Install, ReadHalf, WriteHalf};
-use heap_words::{NoMemory, PlainWords, try_alone};
+use heap_words::{PlainWords, try_alone};
 use object_header::{Map, StaticSize};
-use std::alloc::Global;
+use std::alloc::{AllocError, Global};
 use std::test::Fail;
 
 /// A static object of two words, with a table.
@@ -32,6 +32,7 @@ const WORDS: usize = 45;
 enum Work {
     Read(u64, u32),
     Write(u64, u32, u64),
+    WriteAt(u64, u64, u32, u64),
     Install(u64, u64),
 }
 
@@ -43,12 +44,17 @@ fn told(work: Work, words: &mut PlainWords) -> Option<u64> {
             let () = try_alone(&mut WriteHalf::new(object, word, cap), words, 2)?;
             Some(0)
         }
+        Work::WriteAt(object, table, word, cap) => {
+            let () = try_alone(&mut WriteHalf::at_table(object, table, word, cap), words, 1)?;
+            Some(0)
+        }
+        Work::Install(object, table) if object == table => None,
         Work::Install(object, table) => try_alone(&mut Install::new(object, table), words, 1),
     }
 }
 
 /// Words that all differ, but for the two table words.
-fn contents(alloc: Global) -> Result<Vec<u64>, NoMemory> {
+fn contents(alloc: Global) -> Result<Vec<u64>, AllocError> {
     let mut list = Vec::with_capacity(alloc, WORDS)?;
     for place in 0..WORDS {
         list.push(match place {
@@ -90,6 +96,12 @@ fn each_piece_changes_its_word_alone(rt: HostRuntime) -> Result<(), Fail> {
         (
             "a half is set",
             Work::Write(TABLED, 1, 7),
+            0,
+            Some((SECOND_HALF, 7)),
+        ),
+        (
+            "a half is set in a table that is known",
+            Work::WriteAt(TABLED, TABLE, 1, 7),
             0,
             Some((SECOND_HALF, 7)),
         ),

@@ -1,9 +1,5 @@
-pub mod Once
 pub mod ClaimSteps
-pub mod InClass
-pub mod Claiming
-pub mod Passing
-pub mod PayloadWords
+pub mod ClaimAlone
+pub mod ClaimAnswers
+pub mod Filling
 pub mod PublishSteps
-pub mod Published
-pub mod Order

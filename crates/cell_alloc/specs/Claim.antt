@@ -1,97 +1,89 @@
 -- Claiming a cell, step by step.
-use Rattle.std.specs.Prelude.{ℕ, List, ◌+◌, ◌-◌, ◌*◌, ◌^◌, ◌<◌, ◌==◌, nat_lt, Bool, true, false, Option, Some, None, if◌then◌else◌}
-use Rattle.heap_words.specs.Alone.{FinishesWithin}
+use Rattle.std.specs.Prelude.{◌≡◌, ◌≢◌, ℕ, List, ◌+◌, ◌-◌, ◌*◌, ◌%◌, ◌^◌, ◌==◌, nat_lt, Option, Some, None, if◌then◌else◌}
+use Rattle.heap_words.specs.Steps.{Steps}
+use Rattle.heap_words.specs.Work.{Next, Work}
 use Rattle.heap_words.specs.declared.op.WordOp.{WordOp}
 use Rattle.heap_words.specs.declared.op.WordOp.TheVariants.{Load, Exchange}
-use Rattle.heap_words.specs.declared.piece.Step.{Step}
 use Rattle.heap_words.specs.declared.piece.Step.TheVariants.{More, Done}
 use Rattle.object_header.specs.Codings.{state_code}
-use Rattle.object_header.specs.WordMap.{Layout, Cell, cell_size, class_at, place_of_site, place_of_header}
+use Rattle.object_header.specs.Contents.{ChangesOnly, state_at}
+use Rattle.object_header.specs.WordMap.{Layout, Cell, Header, IsCell, cell_size, class_at, place_of, place_of_site, place_of_header}
 use Rattle.object_header.specs.declared.codings.CellState.TheVariants.{Free, Claimed}
 use Rattle.object_header.specs.declared.codings.Collect.{Collect}
 use Rattle.object_header.specs.declared.words.HeaderWord.TheVariants.{State}
-use Rattle.heap_words.specs.Answers.{Made, made_by, TellsAfter}
 use Rattle.cell_alloc.specs.declared.claim.Claim.{Claim}
 use Rattle.cell_alloc.specs.declared.claim.ClaimStage.{ClaimStage}
 use Rattle.cell_alloc.specs.declared.claim.ClaimStage.TheVariants.{Looking, Taking}
 
--- about to look at a cell of the class
-abbrev pub claim_at : Layout → ℕ → ℕ → Collect → Claim
-claim_at l class cell collect = record {
+-- at a cell of the class
+abbrev pub claim_at : Layout → ℕ → Collect → ℕ → ClaimStage → Claim
+claim_at l class collect cell stage = record {
   first = place_of_site l (Cell class 0);
   size = cell_size (class_at l.classes class);
   cells = (class_at l.classes class).1;
   cell = cell;
-  stage = Looking;
+  stage = stage;
   collect = collect;
 }
 
 -- at its start
 abbrev pub claim : Layout → ℕ → Collect → Claim
-claim l class collect = claim_at l class 0 collect
+claim l class collect = claim_at l class collect 0 Looking
 
--- the place of the cell that it is at
+-- the place of the cell that it is at, reckoned in 64 bits
 abbrev pub claim_place : Claim → ℕ
-claim_place piece = piece.first + piece.cell * piece.size
-
--- it is at a cell of the class, and the class's places fit
-pub record IsClaiming (piece : Claim) : Type 0 where
-  pub in_class : piece.cell < piece.cells
-  pub small : piece.first + piece.cells * piece.size < 2 ^ 64
+claim_place piece = (piece.first + piece.cell * piece.size % 2 ^ 64) % 2 ^ 64
 
 -- what it does with the state word at a place
-unfoldable pub claim_wanted : ClaimStage → ℕ → WordOp
-claim_wanted Looking state = Load state
-claim_wanted Taking state = Exchange state (state_code Free) (state_code Claimed)
+unfoldable pub claim_op : ClaimStage → ℕ → WordOp
+claim_op Looking place = Load place
+claim_op Taking place = Exchange place (state_code Free) (state_code Claimed)
 
--- a free cell is taken, and any other is passed over; so is one whose exchange is lost
-unfoldable pub cell_after : Bool → ℕ → ℕ
-cell_after free cell = if free then cell else cell + 1
+-- it goes on with the next cell, and is done behind the last one
+unfoldable pub pass_over : Claim → Next Claim (Option ℕ)
+pass_over piece =
+    if nat_lt (piece.cell + 1) piece.cells
+    then record { piece = record piece { cell = piece.cell + 1; stage = Looking }; told = More }
+    else record { piece = piece; told = Done None }
 
-unfoldable pub stage_after : Bool → ClaimStage
-stage_after free = if free then Taking else Looking
+-- a cell that is found free is taken, and won by the exchange
+unfoldable pub take_free : Claim → ClaimStage → Next Claim (Option ℕ)
+take_free piece Looking = record { piece = record piece { stage = Taking }; told = More }
+take_free piece Taking = record { piece = piece; told = Done (Some (claim_place piece)) }
 
--- behind the last cell it is done
-abbrev pub passed_over_by : Bool → Step (Option ℕ)
-passed_over_by more = if more then More else Done None
-
-abbrev pub passed_over : ℕ → ℕ → Step (Option ℕ)
-passed_over next cells = passed_over_by (nat_lt next cells)
-
--- a won exchange gives the cell
-unfoldable pub claim_told : Bool → ClaimStage → ℕ → Step (Option ℕ) → Step (Option ℕ)
-claim_told false stage place passed = passed
-claim_told true Looking place passed = More
-claim_told true Taking place passed = Done (Some place)
-
-abbrev pub claim_wants : Claim → WordOp
-claim_wants piece = claim_wanted piece.stage (place_of_header (claim_place piece) State)
-
-abbrev pub claim_after : Claim → ℕ → Claim
-claim_after piece answer = record piece {
-  cell = cell_after (answer == state_code Free) piece.cell;
-  stage = stage_after (answer == state_code Free);
+-- any other cell is passed over; so is one whose exchange is lost
+abbrev pub claim_work : Work Claim (Option ℕ)
+claim_work = record {
+  wants = λ piece. claim_op piece.stage (place_of_header (claim_place piece) State);
+  takes = λ piece answer. if answer == state_code Free then take_free piece piece.stage else pass_over piece;
 }
 
-abbrev pub claim_tells : Claim → ℕ → Step (Option ℕ)
-claim_tells piece answer =
-    claim_told (answer == state_code Free) piece.stage (claim_place piece) (passed_over (piece.cell + 1) piece.cells)
+-- how many steps come behind the next one, at most: two for each cell
+unfoldable pub steps_from : ℕ → ClaimStage → ℕ
+steps_from cells Looking = 2 * cells - 1
+steps_from cells Taking = 2 * cells - 2
 
--- alone it is done within so many steps, tells this, and leaves these words
-abbrev pub ClaimFinishes : ℕ → Claim → List ℕ → Option ℕ → List ℕ → Type 0
-ClaimFinishes = FinishesWithin claim_wants claim_after claim_tells
+abbrev pub claim_left : Claim → ℕ
+claim_left piece = steps_from (piece.cells - piece.cell) piece.stage
 
--- at these answers it makes these operations, and it tells this at the last one
-abbrev pub claim_made : Claim → List ℕ → List Made
-claim_made = made_by claim_wants claim_after
+-- the piece is at a cell of this class of the map
+pub record OfClass (l : Layout) (class : ℕ) (piece : Claim) : Type 0 where
+  pub in_class : IsCell l.classes class piece.cell
+  pub first_is : piece.first ≡ place_of_site l (Cell class 0)
+  pub size_is : piece.size ≡ cell_size (class_at l.classes class)
+  pub cells_are : piece.cells ≡ (class_at l.classes class).1
 
-abbrev pub ClaimTells : Claim → List ℕ → Option ℕ → Type 0
-ClaimTells = TellsAfter claim_after claim_tells
+-- it tells none at the last cell alone, where this look found that it isn't free, and changes no
+-- word; it tells a place where its exchange found this cell free and made it a claimed one
+unfoldable pub IsClaimOut : Layout → List ℕ → List ℕ → ℕ → ℕ → ClaimStage → Option ℕ → Type 0
+IsClaimOut l words left class cell stage None =
+    (cell + 1 ≡ (class_at l.classes class).1) × (state_at l words (Cell class cell) ≢ state_code Free) × (left ≡ words)
+IsClaimOut l words left class cell stage (Some place) =
+    (stage ≡ Taking) × (place ≡ place_of_site l (Cell class cell)) × (state_at l words (Cell class cell) ≡ state_code Free)
+    × ChangesOnly l words left (Header (Cell class cell) State) (state_code Claimed)
 
--- how many steps it makes at most: two for each cell, and one less where it has looked at its own
-unfoldable pub steps_from : ClaimStage → ℕ → ℕ
-steps_from Looking cells = 2 * cells
-steps_from Taking cells = 2 * cells - 1
-
-abbrev pub steps_left : Claim → ℕ
-steps_left piece = steps_from piece.stage (piece.cells - piece.cell)
+-- one step
+abbrev pub ClaimSteps : Layout → List ℕ → ℕ → Claim → Type 0
+ClaimSteps l words class piece =
+    Steps claim_work claim_left words piece (claim_op piece.stage (place_of l (Header (Cell class piece.cell) State))) (λ word left. ChangesOnly l words left (Header (Cell class piece.cell) State) word)
+    (λ left next. OfClass l class next) ⊥ (λ left out. IsClaimOut l words left class piece.cell piece.stage out)

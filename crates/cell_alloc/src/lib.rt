@@ -6,17 +6,16 @@
 //! comes last because the sweep goes by it: a cell that were live before it has its mark would
 //! look like one of an old cycle, and would be set free under its thread.
 //!
-//! Read `specs/Claims.antt` and `specs/Publishing.antt` first. They say what the two pieces do, alone
-//! and whatever other threads do in between. The other files of specs/ have a piece each: what it
-//! wants, what it is after an answer, and what it tells.
+//! Read `specs/Claim.antt` and `specs/Publish.antt` first. They say what each piece wants, what
+//! becomes of it by an answer, and what one step means. `specs/Claims.antt` says what a claim
+//! finds, alone and whatever other threads do in between. `src/laws.rt` has the laws.
 #![tactic(auto)]
 
 mod claim;
-mod laws;
+pub mod laws;
 mod publish;
 #[cfg(test)]
 mod tests;
 
-pub use claim::{Claim, ClaimStage, claim_alone, claim_step_by_step, claim_with_any_answers};
-pub use laws::{no_piece_waits, places_are_inside};
-pub use publish::{Publish, PublishStage, publish_alone, publish_in_order, publish_step_by_step};
+pub use claim::{Claim, ClaimStage};
+pub use publish::{Publish, PublishStage};

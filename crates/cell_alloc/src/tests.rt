@@ -3,9 +3,9 @@
 ghost use Rattle.std.specs.Prelude.{◌<◌, length, IfOk};
 
 use crate::{Claim, Publish};
-use heap_words::{NoMemory, Piece, PlainWords, Step, try_alone};
+use heap_words::{Piece, PlainWords, Step, try_alone};
 use object_header::{Collect, Kind, Map};
-use std::alloc::Global;
+use std::alloc::{AllocError, Global};
 use std::test::Fail;
 
 /// Three cells of two words, and two of four.
@@ -20,14 +20,14 @@ const STATES: [usize; 5] = [23, 30, 37, 44, 53];
 /// How many words there are.
 const WORDS: usize = 62;
 
-fn small_map(alloc: Global) -> Result<Map, NoMemory>
+fn small_map(alloc: Global) -> Result<Map, AllocError>
     ensures { IfOk result (λ map. 0 < length map.classes) }
 {
     Map::new(alloc, 2, 3, &[], &CLASSES)
 }
 
 /// Words that all differ, but for the cells' states.
-fn contents(alloc: Global, states: [u64; 5]) -> Result<Vec<u64>, NoMemory> {
+fn contents(alloc: Global, states: [u64; 5]) -> Result<Vec<u64>, AllocError> {
     let mut list = Vec::with_capacity(alloc, WORDS)?;
     for place in 0..WORDS {
         list.push(100 + place as u64)?;
@@ -143,6 +143,17 @@ fn all_words_of_a_published_cell_are_set(rt: HostRuntime) -> Result<(), Fail> {
         }
         assert_eq!(rt; words.into_list().as_slice(), want.as_slice(), "{name}");
     }
+    Ok(())
+}
+
+#[test]
+fn a_known_class_gives_the_same_piece(rt: HostRuntime) -> Result<(), Fail> {
+    let map = small_map(rt.alloc())?;
+    let cells = map.cells();
+    assert!(rt; 0 < cells.class_count());
+    assert!(rt; 12 <= 8 * u64::from(cells.payload_words(0)));
+    let publish = Publish::in_class(&map, 0, 35, 12, Kind::Home, 9);
+    assert_eq!(rt; publish, Publish::new(&map, 35, 12, Kind::Home, 9));
     Ok(())
 }
 

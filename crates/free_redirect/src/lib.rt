@@ -5,13 +5,13 @@
 //! threads that free the object one finds the bit already set, and each later check finds the
 //! object freed. The cell comes back where the sweep finds it out of reach.
 //!
-//! Read `specs/VoidObject.antt`: what the piece wants, what it tells, and what it leaves.
+//! Read `specs/VoidObject.antt`: what the piece wants, what it tells, and what its step means. The
+//! laws are in `src/laws.rt`.
 #![tactic(auto)]
 
-mod laws;
+pub mod laws;
 #[cfg(test)]
 mod tests;
 mod void_object;
 
-pub use laws::places_are_inside;
-pub use void_object::{VoidObject, void_object_alone};
+pub use void_object::VoidObject;

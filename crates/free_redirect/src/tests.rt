@@ -2,9 +2,9 @@
 
 use crate::VoidObject;
 use filc_num::Reason;
-use heap_words::{NoMemory, PlainWords, try_alone};
+use heap_words::{PlainWords, try_alone};
 use object_header::{CellState, HeaderWord, Map, header_place, state_word};
-use std::alloc::Global;
+use std::alloc::{AllocError, Global};
 use std::test::Fail;
 
 /// The first cell of the map, and its state word.
@@ -16,7 +16,7 @@ const STATE: usize = 15;
 const WORDS: usize = 29;
 
 /// Words that all differ, but for this state of the cell.
-fn contents(alloc: Global, state: u64) -> Result<Vec<u64>, NoMemory> {
+fn contents(alloc: Global, state: u64) -> Result<Vec<u64>, AllocError> {
     let mut list = Vec::with_capacity(alloc, WORDS)?;
     for place in 0..WORDS {
         list.push(if place == STATE {

@@ -1,11 +1,10 @@
 -- What a piece does alone: on words that nobody else changes while it makes its steps.
 --
--- A piece is given by three functions: what it wants, and for each answer what it is then and what
--- it tells. `alone` makes its steps on a list of words, so many or until it is done. Where it
--- depends on the words how many steps there are, `Finishes` says that there is such a number.
+-- `alone` makes its steps on a list of words, so many or until it is done. `EndsAlone` says that
+-- so many are enough, and what it tells and leaves then.
 use Rattle.std.specs.Prelude.{◌≡◌, ℕ, zero, suc, ◌<◌, List, length}
 use Rattle.heap_words.specs.Operations.{place_of, answer_of, words_after}
-use Rattle.heap_words.specs.declared.op.WordOp.{WordOp}
+use Rattle.heap_words.specs.Work.{Next, Work}
 use Rattle.heap_words.specs.declared.piece.Step.{Step}
 use Rattle.heap_words.specs.declared.piece.Step.TheVariants.{More, Waits, Done}
 
@@ -27,17 +26,17 @@ goes_on rest More piece words = rest piece words
 goes_on rest Waits piece words = rest piece words
 goes_on rest (Done out) piece words = record { told = Done out; piece = piece; words = words }
 
-module _ {P T : Type 0} (wants : P → WordOp) (after : P → ℕ → P) (tells : P → ℕ → Step T) where
-  -- the answer that it gets on these words
-  abbrev pub answer_to : P → List ℕ → ℕ
-  answer_to piece words = answer_of (wants piece) words
+module _ {P T : Type 0} (work : Work P T) where
+  -- what becomes of it by the answer that it gets on these words
+  abbrev pub next_on : P → List ℕ → Next P T
+  next_on piece words = work.takes piece (answer_of (work.wants piece) words)
 
   -- one step
   abbrev pub one_step : P → List ℕ → Run P T
   one_step piece words = record {
-    told = tells piece (answer_to piece words);
-    piece = after piece (answer_to piece words);
-    words = words_after (wants piece) words;
+    told = (next_on piece words).told;
+    piece = (next_on piece words).piece;
+    words = words_after (work.wants piece) words;
   }
 
   -- so many steps, or as many as it takes until the piece is done
@@ -51,7 +50,7 @@ module _ {P T : Type 0} (wants : P → WordOp) (after : P → ℕ → P) (tells 
   StaysInside zero piece words = Unit {0}
   StaysInside (suc steps) piece words =
       let step = one_step piece words in
-      (place_of (wants piece) < length words) × (IsGoingOn step.told → StaysInside steps step.piece step.words)
+      (place_of (work.wants piece) < length words) × (IsGoingOn step.told → StaysInside steps step.piece step.words)
 
   -- alone it is done within so many steps, tells this, and leaves these words
   pub record FinishesWithin (steps : ℕ) (piece : P) (words : List ℕ) (out : T) (left : List ℕ) : Type 0 where
@@ -59,7 +58,9 @@ module _ {P T : Type 0} (wants : P → WordOp) (after : P → ℕ → P) (tells 
     pub tells_out : (alone steps piece words).told ≡ Done out
     pub leaves : (alone steps piece words).words ≡ left
 
-  -- alone it is done after some steps, tells this, and leaves these words
-  pub record Finishes (piece : P) (words : List ℕ) (out : T) (left : List ℕ) : Type 0 where
-    pub steps : ℕ
-    pub within : FinishesWithin steps piece words out left
+  -- alone it is done within so many steps, and this holds of what it tells and leaves
+  pub record EndsAlone (steps : ℕ) (piece : P) (words : List ℕ) (Holds : T → List ℕ → Type 0) : Type 0 where
+    pub out : T
+    pub left : List ℕ
+    pub finishes : FinishesWithin steps piece words out left
+    pub holds : Holds out left

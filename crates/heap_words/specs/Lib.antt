@@ -1,3 +1,5 @@
 pub mod Operations
+pub mod Work
 pub mod Alone
 pub mod Answers
+pub mod Steps

@@ -1,8 +1,9 @@
 -- What an operation leaves and what it answers.
 --
 -- `word_after` is what one atomic step of the processor does to one word. The rest says the same of
--- a list of words: the operation changes the word at its place, and answers by the word found there.
-use Rattle.std.specs.Prelude.{ℕ, ◌+◌, ◌%◌, ◌^◌, ◌==◌, max, bit_or, List, slice_index, slice_set, if◌then◌else◌}
+-- a list of words: the operation changes the word at its place, and answers by the word found
+-- there.
+use Rattle.std.specs.Prelude.{ℕ, ◌+◌, ◌%◌, ◌^◌, ◌<◌, ◌==◌, max, bit_or, List, slice_index, slice_set, if◌then◌else◌}
 use Rattle.heap_words.specs.declared.op.WordOp.{WordOp}
 use Rattle.heap_words.specs.declared.op.WordOp.TheVariants.{Load, Store, Swap, Add, Or, Max, Exchange}
 
@@ -43,3 +44,17 @@ answer_of op words = answer_at op (slice_index words (place_of op))
 -- the words that it leaves
 abbrev pub words_after : WordOp → List ℕ → List ℕ
 words_after op words = slice_set words (place_of op) (word_after op (slice_index words (place_of op)))
+
+-- each word is below 2^64
+abbrev pub AreWords : List ℕ → Type 0
+AreWords words = (place : ℕ) → slice_index words place < 2 ^ 64
+
+-- the numbers of the operation are below 2^64
+abbrev pub FitsWord : WordOp → Type 0
+FitsWord (Load place) = place < 2 ^ 64
+FitsWord (Store place new) = (place < 2 ^ 64) × (new < 2 ^ 64)
+FitsWord (Swap place new) = (place < 2 ^ 64) × (new < 2 ^ 64)
+FitsWord (Add place number) = (place < 2 ^ 64) × (number < 2 ^ 64)
+FitsWord (Or place bits) = (place < 2 ^ 64) × (bits < 2 ^ 64)
+FitsWord (Max place number) = (place < 2 ^ 64) × (number < 2 ^ 64)
+FitsWord (Exchange place expected new) = (place < 2 ^ 64) × (expected < 2 ^ 64) × (new < 2 ^ 64)

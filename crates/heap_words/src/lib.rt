@@ -10,10 +10,13 @@
 //! threads can be mixed in any order. What a piece does where nobody else steps in between, its
 //! contract says by `alone`.
 //!
-//! Read `specs/Operations.antt` first: what each operation leaves and answers. `specs/Alone.antt`
-//! says what it is that a piece does alone, and `specs/Answers.antt` what it does with any answers.
+//! Read `specs/Operations.antt` first: what each operation leaves and answers. `specs/Work.antt`
+//! says what a piece is, and `specs/Steps.antt` has the shape in which each piece says what one of
+//! its steps does among those of others. What it does alone (`specs/Alone.antt`) and with any
+//! answers (`specs/Answers.antt`) follows from its steps by the rules in `proofs/Rules.antt`.
 #![tactic(auto)]
 
+pub mod laws;
 mod op;
 mod piece;
 #[cfg(test)]
@@ -21,9 +24,5 @@ mod tests;
 mod words;
 
 pub use op::WordOp;
-pub use piece::{Piece, Step, run_alone, try_alone};
-use std::alloc::AllocError;
+pub use piece::{Piece, Step, try_alone};
 pub use words::{PlainWords, Words};
-
-/// Want of memory.
-pub type NoMemory = AllocError;

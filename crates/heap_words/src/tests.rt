@@ -25,6 +25,7 @@ fn each_operation_does_what_its_name_says(rt: HostRuntime) -> Result<(), Fail> {
         words.apply(WordOp::Store(1, before));
         assert_eq!(rt; words.apply(op), answer, "{name}");
         assert_eq!(rt; words.word(1), after, "{name}");
+        assert_eq!(rt; words.as_slice(), [0, after, 0].as_slice(), "{name}");
         let list = words.into_list();
         assert_eq!(rt; list.as_slice(), [0, after, 0].as_slice(), "{name}");
     }

@@ -3,8 +3,8 @@ ghost use Rattle.std.specs.Prelude.{◌≡◌, ℕ, ◌<◌, List, length, repli
 ghost use Rattle.heap_words.specs.Operations.{place_of, answer_of, words_after};
 ghost use Rattle.heap_words.specs.declared.op.WordOp.{WordOp};
 
-use crate::{NoMemory, WordOp};
-use std::alloc::Global;
+use crate::WordOp;
+use std::alloc::{AllocError, Global};
 use std::marker::Model;
 
 /// Words that can be changed by one operation at a time.
@@ -45,7 +45,7 @@ impl Model for PlainWords {
 
 impl PlainWords {
     /// So many words, all 0.
-    pub fn new(alloc: Global, len: u64) -> Result<PlainWords, NoMemory>
+    pub fn new(alloc: Global, len: u64) -> Result<PlainWords, AllocError>
         ensures { IfOk result (λ words. words ≡ replicate len 0) }
     {
         Ok(PlainWords {
@@ -66,6 +66,13 @@ impl PlainWords {
     {
         let PlainWords { list } = self;
         list
+    }
+
+    /// The words, in their order.
+    pub fn as_slice(&self) -> &[u64]
+        ensures { result.now ≡ self.now }
+    {
+        self.list.as_slice()
     }
 
     /// The word at a place.

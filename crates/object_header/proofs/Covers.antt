@@ -4,11 +4,12 @@ use Rattle.std.proofs.lemmas.Bool.{cases_lt}
 use Rattle.std.proofs.lemmas.List.Sums.{sum_by_more_le, sum_by-cons}
 use Rattle.std.proofs.Math.Nat.{mul-le-mul_right, div-lt_iff_lt-mul, div-add-mod}
 use Rattle.object_header.specs.WordMap.{Layout, Static, Cell, Part, Fixed, Acknowledgement, Slot, Output, Header, Payload, StaticTable, place_of_fixed, static_size, statics_start, cells_start, class_at, words_together, words_of, static_at, site_start, IsCell, IsPart, place_of, IsPartition}
-use Rattle.object_header.specs.declared.words.FixedWord.TheVariants.{Exit, Order, Cycle, Request, GreyHead, OutputHint, InputPlace, Unused}
+use Rattle.object_header.specs.declared.words.FixedWord.TheVariants.{Exit, Order, Cycle, Request, GreyHead, OutputHint, InputCount, Unused}
 use Rattle.object_header.specs.declared.words.StaticSize.{StaticSize}
 use Rattle.object_header.proofs.Partition.{fixed_from, slot_word_from, header_word_from, slot_word_number-small, slot_word_number-from, header_word_number-small, header_word_number-from, part_at, part_at-place_of}
 
--- blocks that lie one after another, each as long as f says: each place within all of them is within one
+-- blocks that lie one after another, each as long as f says: each place within all of them is
+-- within one
 block_covers : {A : Type 0} (f : A → ℕ) (xs : List A) (d : A) (place : ℕ) → place < sum_by f xs → (i : ℕ) × (rest : ℕ) × (i < length xs) × (rest < f (get_or xs i d)) × (sum_by f (take i xs) + rest ≡ place)
 block_covers f [] d place h = absurd (omega arith)
 block_covers f (x ∷ xs) d place h =
@@ -41,7 +42,7 @@ inside l (Fixed Cycle) is = omega arith
 inside l (Fixed Request) is = omega arith
 inside l (Fixed GreyHead) is = omega arith
 inside l (Fixed OutputHint) is = omega arith
-inside l (Fixed InputPlace) is = omega arith
+inside l (Fixed InputCount) is = omega arith
 inside l (Fixed Unused) is = omega arith
 inside l (Acknowledgement slot) is = omega arith
 inside l (Slot slot word) is = omega (arith, slot_word_number-small word)

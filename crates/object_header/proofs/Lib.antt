@@ -1,5 +1,6 @@
 pub mod Partition
 pub mod Covers
 pub mod CellLemmas
-pub mod Apart
+pub mod Sites
 pub mod Contents
+pub mod MapProofs

@@ -3,7 +3,7 @@ use Rattle.std.proofs.Common.{◌≡◌, ℕ, ◌+◌, ◌-◌, ◌*◌, ◌/◌
 use Rattle.std.proofs.lemmas.Bool.Decides.{nat_tests}
 use Rattle.object_header.specs.WordMap.{Layout, Static, Cell, Part, Fixed, Acknowledgement, Slot, Output, Header, Payload, StaticTable, slot_word_number, header_word_number, static_size, class_at, static_at, cell_offset, site_start, IsCell, IsPart, place_of}
 use Rattle.object_header.specs.declared.words.FixedWord.{FixedWord}
-use Rattle.object_header.specs.declared.words.FixedWord.TheVariants.{Exit, Order, Cycle, Request, GreyHead, OutputHint, InputPlace, Unused}
+use Rattle.object_header.specs.declared.words.FixedWord.TheVariants.{Exit, Order, Cycle, Request, GreyHead, OutputHint, InputCount, Unused}
 use Rattle.object_header.specs.declared.words.SlotWord.{SlotWord}
 use Rattle.object_header.specs.declared.words.SlotWord.TheVariants.{State, Function, Address, Capability, Result}
 use Rattle.object_header.specs.declared.words.HeaderWord.{HeaderWord}
@@ -34,7 +34,7 @@ fixed_from (suc (suc zero)) = Cycle
 fixed_from (suc (suc (suc zero))) = Request
 fixed_from (suc (suc (suc (suc zero)))) = GreyHead
 fixed_from (suc (suc (suc (suc (suc zero))))) = OutputHint
-fixed_from (suc (suc (suc (suc (suc (suc zero)))))) = InputPlace
+fixed_from (suc (suc (suc (suc (suc (suc zero)))))) = InputCount
 fixed_from (suc (suc (suc (suc (suc (suc (suc n))))))) = Unused
 
 -- the slot word of a number
@@ -229,7 +229,7 @@ part_at-place_of l (Fixed Cycle) is = refl
 part_at-place_of l (Fixed Request) is = refl
 part_at-place_of l (Fixed GreyHead) is = refl
 part_at-place_of l (Fixed OutputHint) is = refl
-part_at-place_of l (Fixed InputPlace) is = refl
+part_at-place_of l (Fixed InputCount) is = refl
 part_at-place_of l (Fixed Unused) is = refl
 part_at-place_of l (Acknowledgement slot) is = behind_fixed l slot ∙ split-front l.slots slot Acknowledgement (from_slots l) is
 part_at-place_of l (Slot slot word) is =

@@ -1,6 +1,6 @@
 -- What the words code. Each coding is a number for each value; a word codes a value where it is the
 -- value's number.
-use Rattle.std.specs.Prelude.{ℕ, ◌+◌, ◌*◌, ◌^◌, ◌<◌}
+use Rattle.std.specs.Prelude.{ℕ, ◌+◌, ◌*◌, ◌^◌, ◌<◌, ◌≢◌, bit_and}
 use Rattle.object_header.specs.declared.cap.Cap.{Cap}
 use Rattle.object_header.specs.declared.cap.Cap.TheVariants.{Nothing, Freed, Object, Function, Boxed}
 use Rattle.object_header.specs.declared.codings.CellState.{CellState}
@@ -9,6 +9,7 @@ use Rattle.object_header.specs.declared.codings.Kind.{Kind}
 use Rattle.object_header.specs.declared.codings.Kind.TheVariants.{Malloc, Home, Static, Literal, Table, Boxed as BoxKind}
 use Rattle.object_header.specs.declared.codings.SlotState.{SlotState}
 use Rattle.object_header.specs.declared.codings.SlotState.TheVariants.{Free as FreeSlot, Filling, Running, Ended}
+use Rattle.object_header.specs.declared.codings.TheConstants.{VOID_BIT}
 use Rattle.object_header.specs.declared.codings.ExitWord.{ExitWord}
 use Rattle.object_header.specs.declared.codings.ExitWord.TheVariants.{Unset, Exited, Trapped}
 
@@ -34,6 +35,10 @@ state_code Free = 0
 state_code Claimed = 1
 state_code Live = 2
 state_code Void = 6
+
+-- the state has the void bit
+abbrev pub HasVoidBit : ℕ → Type 0
+HasVoidBit state = bit_and state VOID_BIT ≢ 0
 
 -- the kinds in their order
 abbrev pub kind_number : Kind → ℕ

@@ -1,4 +1,5 @@
--- How a map is kept: beside what it is made of, the places of the statics and the start of the cells.
+-- How a map is kept: beside what it is made of, the places of the statics and the start of the
+-- cells.
 use Rattle.std.specs.Prelude.{◌≡◌, ℕ, ◌<◌, vec_len, slice_index}
 use Rattle.object_header.specs.WordMap.{Layout, Static, IsWellFormed, layout_of, cells_start, place_of_site}
 use Rattle.object_header.specs.HeapCells.{classes_in}

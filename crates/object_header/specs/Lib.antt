@@ -3,3 +3,5 @@ pub mod HeapCells
 pub mod KeptMap
 pub mod Codings
 pub mod Contents
+pub mod Halves
+pub mod MapLaws

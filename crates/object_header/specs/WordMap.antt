@@ -10,7 +10,7 @@
 use Rattle.std.specs.Prelude.{◌≡◌, ℕ, ◌+◌, ◌-◌, ◌*◌, ◌%◌, ◌^◌, ◌<◌, ◌≤◌, Bool, true, ◌&&◌, nat_lt, IsTrue, List, [], ◌∷◌, length, take, sum_by, slice_index_or, if◌then◌else◌}
 use Rattle.std.specs.List.{list_all}
 use Rattle.object_header.specs.declared.words.FixedWord.{FixedWord}
-use Rattle.object_header.specs.declared.words.FixedWord.TheVariants.{Exit, Order, Cycle, Request, GreyHead, OutputHint, InputPlace, Unused}
+use Rattle.object_header.specs.declared.words.FixedWord.TheVariants.{Exit, Order, Cycle, Request, GreyHead, OutputHint, InputCount, Unused}
 use Rattle.object_header.specs.declared.words.SlotWord.{SlotWord}
 use Rattle.object_header.specs.declared.words.SlotWord.TheVariants.{State, Function, Address, Capability, Result}
 use Rattle.object_header.specs.declared.words.HeaderWord.{HeaderWord}
@@ -47,7 +47,7 @@ place_of_fixed Cycle = 2
 place_of_fixed Request = 3
 place_of_fixed GreyHead = 4
 place_of_fixed OutputHint = 5
-place_of_fixed InputPlace = 6
+place_of_fixed InputCount = 6
 place_of_fixed Unused = 7
 
 -- the order of a slot's words
@@ -144,6 +144,12 @@ payload_words l (Cell class cell) = (class_at l.classes class).0
 pub record IsCell (classes : List (ℕ × ℕ)) (class cell : ℕ) : Type 0 where
   pub class_in_range : class < length classes
   pub cell_in_range : cell < (class_at classes class).1
+
+-- the word is one of the cell's, of its header or of its payload, counted from the first cell's
+-- start
+pub record IsWordOf (classes : List (ℕ × ℕ)) (class cell word : ℕ) : Type 0 where
+  pub from_start : cell_offset classes class cell ≤ word
+  pub before_end : word < cell_offset classes class cell + cell_size (class_at classes class)
 
 -- the map has such a site
 abbrev pub IsSite : Layout → Site → Type 0

@@ -3,7 +3,8 @@ ghost use Rattle.std.specs.Prelude.{◌≡◌, ◌+◌, ◌*◌, ◌^◌, ◌<�
 ghost use Rattle.object_header.specs.Codings.{cap_code, HasPlace};
 ghost use Rattle.object_header.specs.declared.cap.Cap.{Cap};
 
-/// What a half of a pointer allows.
+/// A capability: what a pointer may reach. In memory it is one half of the pointer, beside the
+/// address.
 #[derive(Clone, Copy, Debug, PartialEq, Eq)]
 pub enum Cap {
     /// Nothing: a plain integer.

@@ -23,7 +23,7 @@ impl Cells {
     ghost use Rattle.object_header.specs.HeapCells.{classes_in, start_of, IsLeastClass};
 
     /// Cells of these classes, pairs of payload words and a number of cells, from a place on.
-    pub(crate) fn new(start: u64, classes: &[(u32, u32)]) -> Cells
+    pub fn new(start: u64, classes: &[(u32, u32)]) -> Cells
         requires few { length classes.now ≤ 14 }
         requires small { start + words_together classes.now < 2 ^ 60 }
         ensures start { start_of result ≡ start }

@@ -87,7 +87,8 @@ pub fn size_word(bytes: u64, kind: Kind) -> u64
 /// The bytes and the kind that a word codes, if it codes some.
 pub fn bytes_and_kind_of(word: u64) -> Option<(u64, Kind)>
     ensures codes { IfSome result (λ size. size_code size.0 size.1 ≡ word) }
-    ensures inverse { (bytes : ℕ) (kind : Kind) → size_code bytes kind ≡ word → result ≡ Some (bytes, kind) }
+    ensures inverse { (bytes : ℕ) (kind : Kind) → size_code bytes kind ≡ word →
+        result ≡ Some (bytes, kind) }
 {
     let kind = match word % 16 {
         0 => Kind::Malloc,

@@ -5,13 +5,14 @@
 //! to be stored. Every layer above names a word by a part of the map (`Part`), never by a number.
 //!
 //! Read `specs/WordMap.antt` first: the parts of a map, where each lies, and that they are disjoint
-//! and cover it. `specs/Codings.antt` says what the words code.
+//! and cover it. `specs/Codings.antt` says what the words code, and `specs/Halves.antt` where the
+//! capability of a pointer in memory lies. The laws of the map are one record, `MapLaws`.
 #![tactic(auto)]
 
 mod cap;
 mod cells;
 mod codings;
-mod laws;
+pub mod laws;
 mod map;
 #[cfg(test)]
 mod tests;
@@ -24,13 +25,8 @@ pub use codings::{
     exit_word, output_word, size_word, slot_state_of, slot_state_word, state_of, state_word,
     thread_id, thread_of,
 };
-pub use laws::{one_word_is_one_part, parts_cover_the_map, places_need_no_map};
 pub use map::Map;
-use std::alloc::AllocError;
 pub use words::{
     FixedWord, HeaderWord, SlotWord, StaticSize, acknowledgement_place, fixed_place, header_place,
     output_place, slot_place, word_place,
 };
-
-/// Want of memory.
-pub type NoMemory = AllocError;

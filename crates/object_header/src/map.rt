@@ -3,10 +3,9 @@ ghost use Rattle.std.specs.Prelude.{◌≡◌, ◌<◌, ◌^◌, length, IfOk, i
 ghost use Rattle.object_header.specs.HeapCells.{classes_in, start_of};
 ghost use Rattle.object_header.specs.WordMap.{Static, StaticTable, IsWellFormed, IsPartition, layout_of, words_of, statics_start, cells_start, place_of_site, place_of, static_at};
 
-use crate::NoMemory;
 use crate::cells::Cells;
 use crate::words::{HEADER, StaticSize, output_place};
-use std::alloc::Global;
+use std::alloc::{AllocError, Global};
 use std::marker::Model;
 
 /// Where each word of the heap lies.
@@ -40,7 +39,7 @@ impl Map {
         out_words: u32,
         statics: &[StaticSize],
         classes: &[(u32, u32)],
-    ) -> Result<Map, NoMemory>
+    ) -> Result<Map, AllocError>
         requires { IsWellFormed (layout_of slots out_words statics.now classes.now) }
         ensures { IfOk result (λ map. map ≡ layout_of slots out_words statics.now classes.now) }
     {
@@ -120,15 +119,9 @@ impl Map {
     pub fn cells(&self) -> Cells
         ensures start { start_of result ≡ cells_start self.now }
         ensures classes { classes_in result ≡ self.now.classes }
+        ensures well_formed { IsWellFormed self.now }
     {
         self.cells
-    }
-
-    /// A map is as runs have it. This does no work: who calls it learns that.
-    pub fn is_well_formed(&self)
-        ensures { IsWellFormed self.now }
-    {
-        let _ = &self.cells;
     }
 
     /// How many words there are. The parts of the map are disjoint and cover them.

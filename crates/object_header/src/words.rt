@@ -18,7 +18,7 @@ pub enum FixedWord {
     /// A number below which all output words are taken.
     OutputHint,
     /// How many bytes of the input were read.
-    InputPlace,
+    InputCount,
     Unused,
 }
 

@@ -1,21 +1,23 @@
 //! Size classes: which cell a request of so many words gets, and where each cell lies.
 //!
 //! The heap hands out cells of a few fixed sizes, so that a cell that is swept can be handed out
-//! again at once, and free lists never split or join. This crate is the arithmetic of that choice
-//! and nothing else: it sees no memory.
+//! again at once, and free lists never split or join. This crate has the classes of the two heaps.
+//! The arithmetic of a choice is that of the map of words (`object_header::Cells`), for cells that
+//! begin at the heap's start.
 //!
-//! Read `specs/Classes.antt` first. It says what "the least class that holds n words" means, and
-//! where a cell lies; the allocator above this crate uses no other fact.
+//! Read `specs/Classes.antt` first, and then `specs/WordMap.antt` of object_header.
 #![tactic(auto)]
 
-ghost use Rattle.std.specs.Prelude.{◌≡◌, ℕ, ◌+◌, ◌^◌, ◌<◌, ◌≤◌, ◌↔◌, length, slice_index, All, IfSome, IsNone, Some, IsTrue};
-ghost use Rattle.size_class.specs.Classes.{ascends, words_together, payload_start, IsCell, IsWordOf, IsLeastClass, normal_words, normal_cells, small_words, small_cells};
+ghost use Rattle.std.specs.Prelude.{◌≡◌, ℕ, ◌+◌, ◌^◌, ◌<◌, ◌≤◌, ◌↔◌, length, All, IfSome, IsNone, Some, IsTrue};
+ghost use Rattle.std.specs.List.{zip};
+ghost use Rattle.object_header.specs.HeapCells.{classes_in, start_of, IsLeastClass};
+ghost use Rattle.object_header.specs.WordMap.{ascends, class_at, cell_offset, words_together, IsCell, IsWordOf};
+ghost use Rattle.size_class.specs.Classes.{normal_classes, small_classes};
 
 #[cfg(test)]
 mod tests;
 
-/// How many header words a cell has.
-const HEADER: u64 = 5;
+use object_header::Cells;
 
 /// The classes of a heap, from the smallest cells up.
 #[derive(Clone, Copy)]
@@ -24,9 +26,9 @@ pub struct Classes<const N: usize> {
     pub words: [u32; N],
     /// How many cells each class has.
     pub cells: [u32; N],
-    ghost few: { N < 2 ^ 32 },
-    ghost ascending: { IsTrue (ascends words) },
-    ghost small: { words_together words cells < 2 ^ 60 },
+    ghost few: { N ≤ 14 },
+    ghost ascending: { IsTrue (ascends (zip words cells)) },
+    ghost small: { words_together (zip words cells) < 2 ^ 60 },
 }
 
 /// A table of classes: the payload words of each by its number of cells.
@@ -38,9 +40,8 @@ macro_rules! classes {
 
 /// The classes of the normal heap.
 pub fn normal() -> Classes<12>
-    ensures words { result.words ≡ normal_words }
-    ensures cells { result.cells ≡ normal_cells }
-    ensures together { words_together result.words result.cells ≡ 814884 }
+    ensures classes { zip result.words result.cells ≡ normal_classes }
+    ensures together { words_together (zip result.words result.cells) ≡ 814884 }
 {
     classes!(
         2 by 8192, 4 by 8192, 8 by 4096, 16 by 4096, 32 by 2048, 64 by 1024,
@@ -50,77 +51,69 @@ pub fn normal() -> Classes<12>
 
 /// The classes of a small heap, which is soon full.
 pub fn small() -> Classes<6>
-    ensures words { result.words ≡ small_words }
-    ensures cells { result.cells ≡ small_cells }
-    ensures together { words_together result.words result.cells ≡ 1248 }
+    ensures classes { zip result.words result.cells ≡ small_classes }
+    ensures together { words_together (zip result.words result.cells) ≡ 1248 }
 {
     classes!(2 by 8, 4 by 8, 8 by 8, 16 by 8, 32 by 8, 64 by 8)
 }
 
 impl<const N: usize> Classes<N> {
+    /// The classes as pairs, as `object_header::Map::new` takes them.
+    pub fn pairs(&self) -> [(u32, u32); N]
+        ensures { result ≡ zip self.now.words self.now.cells }
+    {
+        let mut pairs = [(0, 0); N];
+        for class in 0..N {
+            pairs[class] = (self.words[class], self.cells[class]);
+        }
+        pairs
+    }
+
     /// The least class whose cells hold that many words.
     pub fn class_of(&self, words: u64) -> Option<u32>
-        ensures least { IfSome result (λ class. IsLeastClass self.now.words words class) }
-        ensures none { IsNone result ↔ All (λ payload. payload < words) self.now.words }
+        ensures least { IfSome result (IsLeastClass (zip self.now.words self.now.cells) words) }
+        ensures none { IsNone result
+            ↔ All (λ class. class.0 < words) (zip self.now.words self.now.cells) }
     {
-        for class in 0..N {
-            if words <= u64::from(self.words[class]) {
-                return Some(class as u32);
-            }
-        }
-        None
+        self.heap_cells().class_of(words)
     }
 
     /// The first payload word of a cell, counted from the heap's start.
     pub fn cell_at(&self, class: u32, cell: u32) -> u64
-        requires { IsCell self.now.words self.now.cells class cell }
-        ensures start { result ≡ payload_start self.now.words self.now.cells class cell }
-        ensures inside { result + slice_index self.now.words class ≤ words_together self.now.words self.now.cells }
+        requires { IsCell (zip self.now.words self.now.cells) class cell }
+        ensures start { result ≡ cell_offset (zip self.now.words self.now.cells) class cell + 5 }
+        ensures inside { result + (class_at (zip self.now.words self.now.cells) class).0
+            ≤ words_together (zip self.now.words self.now.cells) }
 
         // Two cells share no word.
         ensures apart { (other_class other_cell word : ℕ) →
-            IsCell self.now.words self.now.cells other_class other_cell →
-            IsWordOf self.now.words self.now.cells class cell word →
-            IsWordOf self.now.words self.now.cells other_class other_cell word →
+            IsCell (zip self.now.words self.now.cells) other_class other_cell →
+            IsWordOf (zip self.now.words self.now.cells) class cell word →
+            IsWordOf (zip self.now.words self.now.cells) other_class other_cell word →
             (other_class ≡ class) × (other_cell ≡ cell) }
     {
-        let mut start = 0;
-        for before in 0..class as usize {
-            start += u64::from(self.cells[before]) * self.size(before);
-        }
-        start + u64::from(cell) * self.size(class as usize) + HEADER
+        self.heap_cells().cell_place(class, cell)
     }
 
     /// The cell whose first payload word this is, counted from the heap's start.
     pub fn cell_of(&self, word: u64) -> Option<(u32, u32)>
-        ensures cell { IfSome result (λ at. IsCell self.now.words self.now.cells at.0 at.1) }
-        ensures start { IfSome result (λ at. payload_start self.now.words self.now.cells at.0 at.1 ≡ word) }
-        ensures inverse { (class cell : ℕ) → IsCell self.now.words self.now.cells class cell →
-            payload_start self.now.words self.now.cells class cell ≡ word → result ≡ Some (class, cell) }
+        ensures cell { IfSome result (λ at.
+            IsCell (zip self.now.words self.now.cells) at.0 at.1) }
+        ensures start { IfSome result (λ at.
+            cell_offset (zip self.now.words self.now.cells) at.0 at.1 + 5 ≡ word) }
+        ensures inverse { (class cell : ℕ) →
+            IsCell (zip self.now.words self.now.cells) class cell →
+            cell_offset (zip self.now.words self.now.cells) class cell + 5 ≡ word →
+            result ≡ Some (class, cell) }
     {
-        let at = word.checked_sub(HEADER)?;
-        let mut start = 0;
-        for class in 0..N {
-            let size = self.size(class);
-            let end = start + u64::from(self.cells[class]) * size;
-            if at < end {
-                let into = at - start;
-                return if into % size == 0 {
-                    Some((class as u32, (into / size) as u32))
-                } else {
-                    None
-                };
-            }
-            start = end;
-        }
-        None
+        self.heap_cells().cell_of(word)
     }
 
-    /// How many words a cell of the class takes, with its header.
-    fn size(&self, class: usize) -> u64
-        requires { class < N }
-        ensures { result ≡ slice_index self.now.words class + 5 }
+    /// The cells, from the heap's start on.
+    fn heap_cells(&self) -> Cells
+        ensures start { start_of result ≡ 0 }
+        ensures classes { classes_in result ≡ zip self.now.words self.now.cells }
     {
-        u64::from(self.words[class]) + HEADER
+        Cells::new(0, &self.pairs())
     }
 }

@@ -1,12 +1,6 @@
-pub mod Inside
-pub mod Places
-pub mod Order
-pub mod Begin
-pub mod Get
-pub mod GetTold
-pub mod Put
-pub mod Told
-pub mod GivesUp
-pub mod PutsOnce
-pub mod InOrder
-mod Nearer
+pub mod PutSteps
+pub mod PutAlone
+pub mod PutAnswers
+pub mod GetLaws
+pub mod EndLaws
+pub mod BeginLaws

@@ -3,5 +3,3 @@ pub mod PutByte
 pub mod GetByte
 pub mod BeginThread
 pub mod Finish
-pub mod InOrder
-pub mod Going

@@ -1,109 +1,134 @@
 -- A byte of the output, step by step.
-use Rattle.std.specs.Prelude.{◌≡◌, ◌≢◌, ◌⊎◌, ℕ, ◌+◌, ◌-◌, ◌*◌, ◌<◌, ◌≤◌, ◌==◌, nat_lt, List, [], ◌∷◌, ◌++◌, Result, Ok, Err, if◌then◌else◌}
-use Rattle.std.specs.List.{All}
+use Rattle.std.specs.Prelude.{◌≡◌, ◌≢◌, ◌⊎◌, ℕ, ◌+◌, ◌-◌, ◌*◌, ◌<◌, ◌≤◌, ◌==◌, nat_lt, List, [], ◌∷◌, ◌++◌, length, Result, Ok, Err, if◌then◌else◌}
 use Rattle.filc_num.specs.declared.reason.Reason.{Reason}
 use Rattle.filc_num.specs.declared.reason.Reason.TheVariants.{OutputLimit}
+use Rattle.heap_words.specs.Answers.{Answered}
+use Rattle.heap_words.specs.Operations.{answer_of}
+use Rattle.heap_words.specs.Steps.{Steps}
+use Rattle.heap_words.specs.Work.{Next, Work, with_stage}
 use Rattle.heap_words.specs.declared.op.WordOp.{WordOp}
 use Rattle.heap_words.specs.declared.op.WordOp.TheVariants.{Load, Store, Exchange}
-use Rattle.heap_words.specs.declared.piece.Step.{Step}
 use Rattle.heap_words.specs.declared.piece.Step.TheVariants.{More, Done}
-use Rattle.object_header.specs.WordMap.{place_of_fixed, place_of_output}
+use Rattle.object_header.specs.Contents.{ChangesOnly}
+use Rattle.object_header.specs.WordMap.{Layout, Part, Fixed, Output, place_of, place_of_fixed, place_of_output}
 use Rattle.object_header.specs.declared.words.FixedWord.TheVariants.{OutputHint}
-use Rattle.heap_words.specs.Answers.{Made}
+use Rattle.thread_slots.specs.Output.{IsWritten, Writes}
 use Rattle.thread_slots.specs.declared.put_byte.PutByte.{PutByte}
 use Rattle.thread_slots.specs.declared.put_byte.PutStage.{PutStage}
 use Rattle.thread_slots.specs.declared.put_byte.PutStage.TheVariants.{LoadHint, LoadWord, TakeWord, StoreHint}
+
+-- nothing, or why no byte was put out
+abbrev pub PutOut : Type 0
+PutOut = Result (Unit {0}) Reason
 
 -- at its start
 abbrev pub put_byte : ℕ → ℕ → ℕ → PutByte
 put_byte slots out_words byte = record { slots = slots; out_words = out_words; byte = byte; stage = LoadHint }
 
--- the word that it is at is one of so many output words
-unfoldable pub IsAtWord : ℕ → PutStage → Type 0
-IsAtWord out_words LoadHint = Unit {0}
-IsAtWord out_words (LoadWord index) = index < out_words
-IsAtWord out_words (TakeWord index) = index < out_words
-IsAtWord out_words (StoreHint index) = index < out_words
-
 -- the hint, a word until one isn't taken, that word, and the hint again
-unfoldable pub put_wanted : ℕ → ℕ → PutStage → WordOp
-put_wanted slots byte LoadHint = Load (place_of_fixed OutputHint)
-put_wanted slots byte (LoadWord index) = Load (place_of_output slots index)
-put_wanted slots byte (TakeWord index) = Exchange (place_of_output slots index) 0 (byte + 1)
-put_wanted slots byte (StoreHint index) = Store (place_of_fixed OutputHint) (index + 1)
+unfoldable pub put_place : ℕ → PutStage → ℕ
+put_place slots LoadHint = place_of_fixed OutputHint
+put_place slots (LoadWord index) = place_of_output slots index
+put_place slots (TakeWord index) = place_of_output slots index
+put_place slots (StoreHint index) = place_of_fixed OutputHint
 
--- it goes on with this output word where there is one, and else stays where it was and gives up
-unfoldable pub stage_at : ℕ → PutStage → ℕ → PutStage
-stage_at out_words stage index = if nat_lt index out_words then LoadWord index else stage
+-- what a stage does with the word at its place
+unfoldable pub put_op : ℕ → PutStage → ℕ → WordOp
+put_op byte LoadHint place = Load place
+put_op byte (LoadWord index) place = Load place
+put_op byte (TakeWord index) place = Exchange place 0 (byte + 1)
+put_op byte (StoreHint index) place = Store place (index + 1)
 
-unfoldable pub told_at : ℕ → ℕ → Step (Result (Unit {0}) Reason)
-told_at out_words index = if nat_lt index out_words then More else Done (Err OutputLimit)
+-- it goes on with this output word where there is one, and else stays where it is and gives up
+unfoldable pub look_at : ℕ → PutStage → ℕ → Next PutStage PutOut
+look_at out_words stage index =
+    if nat_lt index out_words then record { piece = LoadWord index; told = More } else record { piece = stage; told = Done (Err OutputLimit) }
 
 -- a word that is taken sends it to the next one, also where only the exchange shows that
-unfoldable pub stage_after : ℕ → PutStage → ℕ → PutStage
-stage_after out_words LoadHint answer = stage_at out_words LoadHint answer
-stage_after out_words (LoadWord index) answer =
-    if answer == 0 then TakeWord index else stage_at out_words (LoadWord index) (index + 1)
-stage_after out_words (TakeWord index) answer =
-    if answer == 0 then StoreHint index else stage_at out_words (TakeWord index) (index + 1)
-stage_after out_words (StoreHint index) answer = StoreHint index
+unfoldable pub put_next : ℕ → PutStage → ℕ → Next PutStage PutOut
+put_next out_words LoadHint answer = look_at out_words LoadHint answer
+put_next out_words (LoadWord index) answer =
+    if answer == 0 then record { piece = TakeWord index; told = More } else look_at out_words (LoadWord index) (index + 1)
+put_next out_words (TakeWord index) answer =
+    if answer == 0 then record { piece = StoreHint index; told = More } else look_at out_words (TakeWord index) (index + 1)
+put_next out_words (StoreHint index) answer = record { piece = StoreHint index; told = Done (Ok tt) }
 
-unfoldable pub put_told : ℕ → PutStage → ℕ → Step (Result (Unit {0}) Reason)
-put_told out_words LoadHint answer = told_at out_words answer
-put_told out_words (LoadWord index) answer = if answer == 0 then More else told_at out_words (index + 1)
-put_told out_words (TakeWord index) answer = if answer == 0 then More else told_at out_words (index + 1)
-put_told out_words (StoreHint index) answer = Done (Ok tt)
+abbrev pub put_work : Work PutByte PutOut
+put_work = record {
+  wants = λ piece. put_op piece.byte piece.stage (put_place piece.slots piece.stage);
+  takes = λ piece answer. with_stage (λ stage. record piece { stage = stage }) (put_next piece.out_words piece.stage answer);
+}
 
-abbrev pub put_wants : PutByte → WordOp
-put_wants piece = put_wanted piece.slots piece.byte piece.stage
+-- how many steps come behind a stage's, at most: two for each word, and the store of the hint
+unfoldable pub steps_from : ℕ → PutStage → ℕ
+steps_from out_words LoadHint = 2 * out_words + 2
+steps_from out_words (LoadWord index) = 2 * (out_words - index) + 1
+steps_from out_words (TakeWord index) = 2 * (out_words - index)
+steps_from out_words (StoreHint index) = 0
 
-abbrev pub put_after : PutByte → ℕ → PutByte
-put_after piece answer = record piece { stage = stage_after piece.out_words piece.stage answer }
+abbrev pub put_left : PutByte → ℕ
+put_left piece = steps_from piece.out_words piece.stage
 
-abbrev pub put_tells : PutByte → ℕ → Step (Result (Unit {0}) Reason)
-put_tells piece answer = put_told piece.out_words piece.stage answer
+-- ---- one step among those of other threads
+
+-- the part that a stage is about
+unfoldable pub put_part : PutStage → Part
+put_part LoadHint = Fixed OutputHint
+put_part (LoadWord index) = Output index
+put_part (TakeWord index) = Output index
+put_part (StoreHint index) = Fixed OutputHint
+
+-- where so many bytes are put out, the output words before the one that it is at are taken
+unfoldable pub IsBehind : ℕ → ℕ → PutStage → Type 0
+IsBehind out_words count LoadHint = Unit {0}
+IsBehind out_words count (LoadWord index) = (index < out_words) × (index ≤ count)
+IsBehind out_words count (TakeWord index) = (index < out_words) × (index ≤ count)
+IsBehind out_words count (StoreHint index) = index < count
+
+-- the piece belongs to this map, where these bytes are put out
+pub record OfOutput (l : Layout) (bytes : List ℕ) (piece : PutByte) : Type 0 where
+  pub slots_are : piece.slots ≡ l.slots
+  pub out_words_are : piece.out_words ≡ l.out_words
+  pub byte_fits : piece.byte < 256
+  pub behind : IsBehind l.out_words (length bytes) piece.stage
+
+-- the bytes that are put out after a stage and its answer: one more where the exchange wins
+unfoldable pub bytes_after : ℕ → PutStage → ℕ → List ℕ → List ℕ
+bytes_after byte LoadHint answer bytes = bytes
+bytes_after byte (LoadWord index) answer bytes = bytes
+bytes_after byte (TakeWord index) answer bytes = if answer == 0 then bytes ++ byte ∷ [] else bytes
+bytes_after byte (StoreHint index) answer bytes = bytes
+
+-- it gives up only where all output words are taken
+abbrev pub IsFullAt : Layout → List ℕ → PutOut → Type 0
+IsFullAt l bytes (Ok done) = Unit {0}
+IsFullAt l bytes (Err reason) = (reason ≡ OutputLimit) × (length bytes ≡ l.out_words)
+
+-- the operation of its next step, on a part, and the bytes that are put out after it
+abbrev pub put_op_in : Layout → PutByte → WordOp
+put_op_in l piece = put_op piece.byte piece.stage (place_of l (put_part piece.stage))
+
+abbrev pub bytes_then : Layout → List ℕ → List ℕ → PutByte → List ℕ
+bytes_then l words bytes piece = bytes_after piece.byte piece.stage (answer_of (put_op_in l piece) words) bytes
+
+-- one step, where these bytes are put out
+abbrev pub PutSteps : Layout → List ℕ → List ℕ → PutByte → Type 0
+PutSteps l words bytes piece =
+    Steps put_work put_left words piece (put_op_in l piece) (λ word left. ChangesOnly l words left (put_part piece.stage) word)
+    (λ left next. IsWritten l left (bytes_then l words bytes piece) × OfOutput l (bytes_then l words bytes piece) next)
+    ⊥
+    (λ left out. IsWritten l left (bytes_then l words bytes piece) × IsFullAt l bytes out)
+
+-- ---- alone, and with any answers
+
+-- alone it puts its byte behind these ones, or changes no word where there is no room
+abbrev pub PutsAlone : Layout → List ℕ → List ℕ → ℕ → PutOut → List ℕ → Type 0
+PutsAlone l words bytes byte (Ok done) left =
+    (length bytes < l.out_words) × Writes l words left (length bytes) byte × IsWritten l left (bytes ++ byte ∷ [])
+PutsAlone l words bytes byte (Err reason) left =
+    (reason ≡ OutputLimit) × (length bytes ≡ l.out_words) × (left ≡ words)
 
 -- a load of this output word, or an exchange of it, found it taken
-pub record FoundTaken (slots byte index : ℕ) (made : Made) : Type 0 where
+pub record FoundTaken (slots byte index : ℕ) (made : Answered) : Type 0 where
   pub looks : (made.op ≡ Load (place_of_output slots index)) ⊎ (made.op ≡ Exchange (place_of_output slots index) 0 (byte + 1))
   pub taken : made.answer ≢ 0
-
--- an operation that changes no word with this answer: a load, or an exchange that is lost
-abbrev pub OnlyLooks : WordOp → ℕ → Type 0
-OnlyLooks (Load place) answer = Unit {0}
-OnlyLooks (Exchange place expected new) answer = answer ≢ expected
-OnlyLooks other answer = ⊥
-
-abbrev pub LeavesWords : Made → Type 0
-LeavesWords made = OnlyLooks made.op made.answer
-
--- one exchange wins a free output word for the byte, and the hint is stored behind that word; before
--- the exchange no word was changed, and after the store nothing is done
-pub record PutsOnce (slots out_words byte : ℕ) (made : List Made) : Type 0 where
-  pub before : List Made
-  pub index : ℕ
-  pub stored : ℕ
-  pub is_output : index < out_words
-  pub looks : All LeavesWords before
-  pub made_are : made ≡ before ++ (record { op = Exchange (place_of_output slots index) 0 (byte + 1); answer = 0 } ∷ (record { op = Store (place_of_fixed OutputHint) (index + 1); answer = stored } ∷ []))
-
--- the output words before the one that it is at are among these many
-unfoldable pub IsBehind : ℕ → PutStage → Type 0
-IsBehind count LoadHint = Unit {0}
-IsBehind count (LoadWord index) = index ≤ count
-IsBehind count (TakeWord index) = index ≤ count
-IsBehind count (StoreHint index) = index < count
-
--- how many bytes a step puts out: one where the exchange wins
-unfoldable pub bytes_put : PutStage → ℕ → ℕ
-bytes_put LoadHint answer = 0
-bytes_put (LoadWord index) answer = 0
-bytes_put (TakeWord index) answer = if answer == 0 then 1 else 0
-bytes_put (StoreHint index) answer = 0
-
--- how many steps it makes at most from a stage on: two for each word, and the store of the hint
-unfoldable pub steps_left : ℕ → PutStage → ℕ
-steps_left out_words LoadHint = 2 * out_words + 3
-steps_left out_words (LoadWord index) = 2 * (out_words - index) + 2
-steps_left out_words (TakeWord index) = 2 * (out_words - index) + 1
-steps_left out_words (StoreHint index) = 1

@@ -1,68 +1,116 @@
-//! Laws of the pieces and of the output. Each is the contract of a function that does nothing.
-ghost use Rattle.std.specs.Prelude.{◌≡◌, ◌≢◌, ℕ, ◌<◌, List, [], ◌∷◌, length};
-ghost use Rattle.heap_words.specs.Operations.{place_of};
-ghost use Rattle.heap_words.specs.Answers.{made_by};
-ghost use Rattle.heap_words.specs.declared.piece.Step.TheVariants.{Waits};
-ghost use Rattle.object_header.specs.WordMap.{Layout};
+//! Laws of the pieces. Each is the contract of a function that does nothing.
+//!
+//! A step law says what one step of a piece does, whatever other threads did before: `starts`, that
+//! its fact holds at the start; `steps`, what a step does where the fact holds; `keeps`, that what
+//! others may change keeps the fact.
+ghost use Rattle.std.specs.Prelude.{◌≡◌, ◌≢◌, ◌↔◌, ℕ, ◌+◌, ◌^◌, ◌<◌, ◌≤◌, List, ◌∷◌, length, Err, None, true, false};
+ghost use Rattle.std.specs.List.{Any};
+ghost use Rattle.filc_num.specs.declared.reason.Reason.TheVariants.{OutputLimit};
+ghost use Rattle.heap_words.specs.Alone.{EndsAlone};
+ghost use Rattle.heap_words.specs.Answers.{TellsAfter, operations_at};
+ghost use Rattle.heap_words.specs.declared.piece.Step.TheVariants.{Done};
+ghost use Rattle.object_header.specs.Codings.{exit_code};
 ghost use Rattle.object_header.specs.Contents.{IsLaidOut};
-ghost use Rattle.thread_slots.specs.Output.{IsInOrder, IsWritten};
-ghost use Rattle.thread_slots.specs.BeginThread.{begin_thread, begin_wants, begin_after, begin_tells, slot_loads};
-ghost use Rattle.thread_slots.specs.PutByte.{put_wants, put_tells, IsAtWord, IsBehind};
-ghost use Rattle.thread_slots.specs.InOrder.{StepsInOrder};
-ghost use Rattle.thread_slots.specs.GetByte.{get_wants};
-ghost use Rattle.thread_slots.specs.Finish.{finish_wants};
+ghost use Rattle.object_header.specs.WordMap.{Layout};
+ghost use Rattle.object_header.specs.declared.codings.ExitWord.TheVariants.{Unset};
+ghost use Rattle.thread_slots.specs.BeginThread.{begin_thread, begin_work, beginning_in, BeginSteps, IsRunning, KeepsThread, OfSlot};
+ghost use Rattle.thread_slots.specs.Finish.{finish, finish_work, FinishSteps, IsEnded, OfExit};
+ghost use Rattle.thread_slots.specs.GetByte.{get_byte, get_work, GetsAlone, GetSteps, OfInput};
+ghost use Rattle.thread_slots.specs.Output.{IsWritten};
+ghost use Rattle.thread_slots.specs.PutByte.{put_byte, put_work, FoundTaken, OfOutput, PutsAlone, PutSteps};
 ghost use Rattle.thread_slots.specs.declared.begin_thread.BeginThread.{BeginThread};
-ghost use Rattle.thread_slots.specs.declared.put_byte.PutByte.{PutByte};
-ghost use Rattle.thread_slots.specs.declared.get_byte.GetByte.{GetByte};
 ghost use Rattle.thread_slots.specs.declared.finish.Finish.{Finish};
+ghost use Rattle.thread_slots.specs.declared.get_byte.GetByte.{GetByte};
+ghost use Rattle.thread_slots.specs.declared.put_byte.PutByte.{PutByte};
 
-use object_header::parts_cover_the_map;
-
-/// The output words are in order exactly where the first so many are taken, and no other ones.
-pub fn order_is_a_count()
-    ensures counted { (l : Layout) (words : List ℕ) → IsInOrder l words →
-        (count : ℕ) × IsWritten l words count }
-    ensures ordered { (l : Layout) (words : List ℕ) (count : ℕ) → IsWritten l words count →
-        IsInOrder l words }
+/// One step of a `PutByte` keeps the output in order and changes one word. A byte that it puts out
+/// is the next one, and it gives up only where the output is full. What others do between two of
+/// its steps can only put more bytes out.
+pub fn put_byte_step()
+    ensures starts { (l : Layout) (bytes : List ℕ) (byte : ℕ) → byte < 256 →
+        OfOutput l bytes (put_byte l.slots l.out_words byte) }
+    ensures steps { (l : Layout) (words bytes : List ℕ) (piece : PutByte) → IsLaidOut l words →
+        IsWritten l words bytes → OfOutput l bytes piece → PutSteps l words bytes piece }
+    ensures keeps { (l : Layout) (bytes more : List ℕ) (piece : PutByte) →
+        length bytes ≤ length more → OfOutput l bytes piece → OfOutput l more piece }
 {}
 
-/// Each step of a `PutByte` keeps the output in order, also where other threads put bytes out between
-/// its steps. A byte that it puts out is the next one, and it gives up only where the output is full.
-pub fn put_byte_keeps_the_order()
-    ensures { (l : Layout) (words : List ℕ) (count : ℕ) (piece : PutByte) → IsLaidOut l words →
-        IsWritten l words count → piece.slots ≡ l.slots → piece.out_words ≡ l.out_words →
-        IsAtWord l.out_words piece.stage → IsBehind count piece.stage →
-        StepsInOrder l words count piece }
-{
-    parts_cover_the_map();
-}
-
-/// Wherever a piece is, its next operation is on one of the map's words.
-pub fn places_are_inside()
-    ensures begin { (l : Layout) (words : List ℕ) (piece : BeginThread) → IsLaidOut l words →
-        piece.slots ≡ l.slots → piece.slot < l.slots → place_of (begin_wants piece) < length words }
-    ensures put { (l : Layout) (words : List ℕ) (piece : PutByte) → IsLaidOut l words →
-        piece.slots ≡ l.slots → IsAtWord l.out_words piece.stage →
-        place_of (put_wants piece) < length words }
-    ensures get { (l : Layout) (words : List ℕ) (piece : GetByte) → IsLaidOut l words →
-        place_of (get_wants piece) < length words }
-    ensures finish { (l : Layout) (words : List ℕ) (piece : Finish) → IsLaidOut l words →
-        place_of (finish_wants piece) < length words }
-{
-    parts_cover_the_map();
-}
-
-/// Beginning a thread and putting a byte out wait for no other thread, whatever they are answered.
-pub fn no_piece_waits()
-    ensures begin { (piece : BeginThread) (answer : ℕ) → begin_tells piece answer ≢ Waits }
-    ensures put { (piece : PutByte) (answer : ℕ) → put_tells piece answer ≢ Waits }
+/// Run alone, a `PutByte` writes its byte into the first output word that isn't taken, moves the
+/// hint behind it, and changes no other word. Where all output words are taken it gives up, and
+/// changes no word.
+pub fn put_byte_alone()
+    ensures { (l : Layout) (words bytes : List ℕ) (byte : ℕ) → IsLaidOut l words →
+        IsWritten l words bytes →
+        EndsAlone put_work (l.out_words + 3) (put_byte l.slots l.out_words byte) words
+        (PutsAlone l words bytes byte) }
 {}
 
-/// A `BeginThread` loads the state, the function, the address and the capability of its slot, in this
-/// order, whatever it is answered.
-#[tactic(auto, unfolding(crate::specs::BeginThread::word_wanted, crate::specs::BeginThread::begun_after))]
-pub fn begin_thread_in_order()
-    ensures { (slots slot state function address capability : ℕ) →
-        made_by begin_wants begin_after (begin_thread slots slot) (state ∷ function ∷ address ∷ capability ∷ [])
-        ≡ slot_loads slots slot state function address capability }
+/// Whatever other threads do in between, a `PutByte` gives up only where a load or an exchange of
+/// its own found each output word taken, from the hint that it loaded on.
+pub fn put_byte_with_any_answers()
+    ensures { (slots out_words byte hint index : ℕ) (answers : List ℕ) →
+        TellsAfter put_work (put_byte slots out_words byte) (hint ∷ answers) (Err OutputLimit) →
+        hint ≤ index → index < out_words →
+        Any (FoundTaken slots byte index)
+        (operations_at put_work (put_byte slots out_words byte) (hint ∷ answers)) }
+{}
+
+/// One step of a `GetByte` tells the number of the next byte where its exchange wins, and `None`
+/// exactly where its load shows that the input has ended. It begins again only where its exchange
+/// was lost. Its fact is of the piece alone, so others keep it.
+pub fn get_byte_step()
+    ensures starts { (length : ℕ) → length < 2 ^ 64 → OfInput (get_byte length) }
+    ensures steps { (l : Layout) (words : List ℕ) (piece : GetByte) → IsLaidOut l words →
+        OfInput piece → GetSteps l words piece }
+    ensures end { (piece : GetByte) (answer : ℕ) → (get_work.takes piece answer).told ≡ Done None
+        ↔ ((piece.found ≡ None) × (piece.length ≤ answer)) }
+{}
+
+/// Run alone, a `GetByte` tells how many bytes were got where that is below the input's length.
+/// Then it is one more, and no other word changes. At the input's end it tells `None`, and then no
+/// word changes.
+pub fn get_byte_alone()
+    ensures { (l : Layout) (words : List ℕ) (length : ℕ) → IsLaidOut l words → length < 2 ^ 64 →
+        EndsAlone get_work 2 (get_byte length) words (GetsAlone l words length) }
+{}
+
+/// The step of a `Finish` tells whether it ended the run. It didn't exactly where the exit word was
+/// set. Its fact is of the piece alone, so others keep it.
+pub fn finish_step()
+    ensures starts { (word : ℕ) → word < 2 ^ 64 → word ≢ exit_code Unset → OfExit (finish word) }
+    ensures steps { (l : Layout) (words : List ℕ) (piece : Finish) → IsLaidOut l words →
+        OfExit piece → FinishSteps l words piece }
+    ensures lost { (piece : Finish) (answer : ℕ) →
+        (finish_work.takes piece answer).told ≡ Done false ↔ (answer ≢ exit_code Unset) }
+{}
+
+/// Run alone, a `Finish` tells `true` where the exit word was unset. Then the exit word is its own,
+/// and no other word changes. It tells `false` where the exit word was set, and then no word
+/// changes.
+pub fn finish_alone()
+    ensures { (l : Layout) (words : List ℕ) (word : ℕ) → IsLaidOut l words → OfExit (finish word) →
+        EndsAlone finish_work 1 (finish word) words (λ out left. IsEnded l words left word out) }
+{}
+
+/// One step of a `BeginThread` loads a word of its slot. What it has loaded stands while others
+/// leave the slot's state, function and address; the capability is the one of the last step.
+pub fn begin_thread_step()
+    ensures starts { (l : Layout) (words : List ℕ) (slot generation : ℕ) →
+        IsRunning l words slot generation →
+        OfSlot l words slot generation (begin_thread l.slots slot) }
+    ensures steps { (l : Layout) (words : List ℕ) (slot generation : ℕ) (piece : BeginThread) →
+        IsLaidOut l words → OfSlot l words slot generation piece →
+        BeginSteps l words slot generation piece }
+    ensures keeps { (l : Layout) (old new : List ℕ) (slot generation : ℕ) (piece : BeginThread) →
+        KeepsThread l old new slot → OfSlot l old slot generation piece →
+        OfSlot l new slot generation piece }
+{}
+
+/// Run alone, a `BeginThread` tells the id of the thread that runs in its slot, the function that
+/// it begins with, and the argument's address and capability. It changes no word.
+pub fn begin_thread_alone()
+    ensures { (l : Layout) (words : List ℕ) (slot generation : ℕ) → IsLaidOut l words →
+        IsRunning l words slot generation →
+        EndsAlone begin_work 4 (begin_thread l.slots slot) words
+        (λ out left. (out ≡ beginning_in l words slot generation) × (left ≡ words)) }
 {}

@@ -3,9 +3,9 @@
 
 use crate::{BeginThread, Finish, GetByte, PutByte, PutStage};
 use filc_num::Reason;
-use heap_words::{NoMemory, Piece, PlainWords, Step, try_alone};
+use heap_words::{Piece, PlainWords, Step, try_alone};
 use object_header::{FixedWord, Map, SlotWord, fixed_place, output_place, slot_place};
-use std::alloc::Global;
+use std::alloc::{AllocError, Global};
 use std::test::Fail;
 
 const SLOTS: u32 = 2;
@@ -34,14 +34,14 @@ fn the_places_are_those_of_a_map(rt: HostRuntime) -> Result<(), Fail> {
     assert_eq!(rt; map.words(), WORDS as u64);
     assert_eq!(rt; fixed_place(FixedWord::Exit), EXIT as u64);
     assert_eq!(rt; fixed_place(FixedWord::OutputHint), HINT as u64);
-    assert_eq!(rt; fixed_place(FixedWord::InputPlace), INPUT as u64);
+    assert_eq!(rt; fixed_place(FixedWord::InputCount), INPUT as u64);
     assert_eq!(rt; slot_place(SLOTS, 1, SlotWord::State), STATE as u64);
     assert_eq!(rt; output_place(SLOTS, 0), OUTPUT as u64);
     Ok(())
 }
 
 /// Words that all differ, but for the one at this place.
-fn words_with(alloc: Global, place: usize, word: u64) -> Result<Vec<u64>, NoMemory> {
+fn words_with(alloc: Global, place: usize, word: u64) -> Result<Vec<u64>, AllocError> {
     let mut list = Vec::with_capacity(alloc, WORDS)?;
     for other in 0..WORDS {
         list.push(if other == place {
@@ -54,7 +54,7 @@ fn words_with(alloc: Global, place: usize, word: u64) -> Result<Vec<u64>, NoMemo
 }
 
 /// Words with this hint, and then these output words.
-fn output_with(alloc: Global, output: [u64; 4]) -> Result<Vec<u64>, NoMemory> {
+fn output_with(alloc: Global, output: [u64; 4]) -> Result<Vec<u64>, AllocError> {
     let mut list = Vec::with_capacity(alloc, WORDS)?;
     for place in 0..WORDS {
         list.push(match place {
@@ -143,7 +143,6 @@ fn a_thread_is_begun_by_its_slot(rt: HostRuntime) -> Result<(), Fail> {
 }
 
 #[test]
-#[tactic(auto, unfolding(crate::specs::PutByte::IsAtWord))]
 fn who_loses_looks_further(rt: HostRuntime) {
     let mut put = PutByte::new(SLOTS, OUT_WORDS, 9);
     put.stage = PutStage::TakeWord(1);

@@ -7,9 +7,9 @@ ghost use Rattle.heap_words.specs.Operations.{place_of};
 
 use anyhow::{Context, Result};
 use aux_words::{ReadHalf, WriteHalf};
-use heap_words::{NoMemory, PlainWords, WordOp, Words, try_alone};
+use heap_words::{PlainWords, WordOp, Words, try_alone};
 use object_header::{HeaderWord, header_place};
-use std::alloc::Global;
+use std::alloc::{AllocError, Global};
 use std::env;
 
 /// How many words the heap of the usual size has.
@@ -68,7 +68,7 @@ fn halves(words: &mut PlainWords, halves: u64) -> u64 {
 }
 
 /// The sum of the answers of the work with this name.
-fn measured(alloc: Global, work: &str, steps: u64) -> Result<Option<u64>, NoMemory> {
+fn measured(alloc: Global, work: &str, steps: u64) -> Result<Option<u64>, AllocError> {
     let mut words = PlainWords::new(alloc, WORDS)?;
     Ok(match work {
         "operations" => Some(operations(&mut words, steps)),

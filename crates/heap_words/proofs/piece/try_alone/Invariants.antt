@@ -6,4 +6,4 @@ use Rattle.heap_words.proofs.piece.try_alone.Given as goal
 abbrev pub invariant-loop : goal.invariant-loop
 invariant-loop g l =
     let P = g.P.Piece in
-    EndsAs P.wants P.after P.tells P.is_going (l.steps - l.counter) l.piece l.words l.fn.steps l.fn.piece l.fn.words
+    EndsAs P.work P.is_going (l.steps - l.counter) l.piece l.words l.fn.steps l.fn.piece l.fn.words
