@@ -1,11 +1,11 @@
 -- A run on fewer answers: it takes them all and makes the first events, or it does all that it does on more.
-use Rattle.std.proofs.Common.{◌≡◌, ◌⊎◌, inl, inr, ℕ, List, [], ◌∷◌, ◌++◌, length, Option, Some, None, refl, sym, ap, subst}
+use Rattle.std.proofs.Common.{◌≡◌, ◌⊎◌, inl, inr, List, [], ◌∷◌, ◌++◌, Option, Some, None, refl, sym, subst}
 use Rattle.ideal_machine.specs.declared.event.Event.{Event}
 use Rattle.ideal_machine.specs.declared.event.Answer.{Answer}
 use Rattle.ideal_machine.specs.Queries.{Query, Reply, reply_to, event_of}
 use Rattle.ideal_machine.specs.Play.{Waits, Play, Gives, Stops, Asks, Jump, Call, Log, with_event, with_jump, with_call, Behaviour, Ends, log_of, by_reply, run_query, run}
 use Rattle.ideal_machine.specs.Reaches.{IsLater}
-use Rattle.ideal_machine.proofs.Runs.{later_self, later_on, later_by_event, run_later}
+use Rattle.ideal_machine.proofs.Runs.{run_later}
 
 -- the log with these answers left
 abbrev pub with_answers : List Answer → Log → Log

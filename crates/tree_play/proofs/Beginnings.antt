@@ -1,19 +1,18 @@
 -- Each beginning of a legal history is legal: a thread that got fewer answers made the first of its events.
-use Rattle.std.proofs.Common.{◌≡◌, ⊎_elim, ℕ, zero, suc, ◌+◌, ◌≤◌, List, [], ◌∷◌, ◌++◌, length, cond, Bool, true, false, refl, sym, ap, ◌∙◌, subst, arith, length-append, append-nil}
-use Rattle.std.specs.Prelude.{◌==◌, filter, map, if◌then◌else◌, slice_get}
+use Rattle.std.proofs.Common.{◌≡◌, ⊎_elim, ℕ, ◌+◌, ◌≤◌, List, [], ◌∷◌, ◌++◌, length, cond, Bool, true, false, refl, sym, ap, ◌∙◌, subst, arith, length-append, append-nil}
+use Rattle.std.specs.Prelude.{◌==◌, filter, if◌then◌else◌}
 use Rattle.c_tree.specs.Plain.{PlainProgram}
 use Rattle.ideal_machine.specs.declared.event.Event.{Event}
 use Rattle.ideal_machine.specs.declared.event.Event.TheVariants.{Begin}
-use Rattle.ideal_machine.specs.declared.event.Answer.{Answer}
-use Rattle.ideal_machine.specs.Memory.{Memory, World, first_memory, address_in, thread_id}
-use Rattle.ideal_machine.specs.Play.{Finished, Waits, Cut, Behaviour, Goes, Ends, Log, fresh_log, log_of, run}
+use Rattle.ideal_machine.specs.Memory.{Memory, World, first_memory}
+use Rattle.ideal_machine.specs.Play.{Finished, Waits, Cut, Behaviour, Goes, Ends, fresh_log, log_of}
 use Rattle.ideal_machine.specs.Phrases.{Start}
 use Rattle.ideal_machine.specs.Reaches.{Reaches}
-use Rattle.ideal_machine.proofs.Runs.{run_count, reached_events, no_length}
+use Rattle.ideal_machine.proofs.Runs.{run_count, reached_events}
 use Rattle.ideal_machine.proofs.Cuts.{cut_reaches}
-use Rattle.ideal_machine.proofs.Fewer.{IsCutShort, IsAlike, run_fewer}
+use Rattle.ideal_machine.proofs.Fewer.{run_fewer}
 use Rattle.tree_play.specs.TreePlay.{play_thread, play}
-use Rattle.tree_play.specs.Legal.{Entry, History, memory_after, last_memory, AreAllowed, Moment, moments, is_begin, until_begin, thread_moments, answers_of, AreShown, IsPlayed, start_of, BeginIsPlayed, ThreadsPlay, IsLegalHistory}
+use Rattle.tree_play.specs.Legal.{History, memory_after, AreAllowed, Moment, moments, is_begin, until_begin, thread_moments, answers_of, AreShown, IsPlayed, start_of, BeginIsPlayed, ThreadsPlay}
 use Rattle.tree_play.specs.Beginnings.{BeginningsAreLegal}
 use Rattle.tree_play.proofs.More.{thread_cut, shown_length, answers_length}
 
@@ -129,10 +128,11 @@ module _ (n : ℕ) (program : PlainProgram) where
   threads_front base base' [] after memory h = tt
   threads_front base base' (entry ∷ before) after memory h =
       let later = memory_after memory entry in
-      let own = thread_on entry.actor before after later in
-      (begin_front base base' memory entry.actor entry.event (thread_moments entry.actor (moments later before)) own.0
-      (subst (BeginIsPlayed n program base memory entry.actor entry.event) own.1 h.0),
-      threads_front base base' before after later h.1)
+      let own = thread_on entry.actor before after later in (
+        begin_front base base' memory entry.actor entry.event (thread_moments entry.actor (moments later before)) own.0
+            (subst (BeginIsPlayed n program base memory entry.actor entry.event) own.1 h.0),
+        threads_front base base' before after later h.1,
+      )
 
 pub beginnings_are_legal : BeginningsAreLegal
 beginnings_are_legal before after program world n h = record {

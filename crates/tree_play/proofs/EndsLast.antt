@@ -4,9 +4,7 @@ use Rattle.std.proofs.Common.{◌≡◌, ℕ, zero, suc, List, [], ◌∷◌, �
 use Rattle.std.specs.Prelude.{slice_get, replicate, ◌==◌}
 use Rattle.filc_num.specs.declared.integer.ArithFault.{ArithFault}
 use Rattle.filc_num.specs.declared.reason.Reason.{Reason}
-use Rattle.filc_num.specs.declared.integer.BinOp.{BinOp}
 use Rattle.filc_num.specs.declared.integer.BinOp.TheVariants.{Sub}
-use Rattle.filc_num.specs.declared.integer.IntType.{IntType}
 use Rattle.c_tree.specs.declared.expr.Expr.{Expr, Number, Local, Negate', Chain', end_of-Expr, more_of-Expr, Row_of-Link, end_of-Link, more_of-Link}
 use Rattle.c_tree.specs.declared.stmt.Stmt.{Stmt, Empty, Assign, While', Block', PutChar, Return, Row_of-Stmt, end_of-Stmt, more_of-Stmt}
 use Rattle.c_tree.specs.declared.program.FunctionDef.{FunctionDef}
@@ -15,8 +13,8 @@ use Rattle.ideal_machine.specs.declared.value.Value.{Value}
 use Rattle.ideal_machine.specs.declared.event.Event.{Event}
 use Rattle.ideal_machine.specs.declared.event.Answer.{Answer}
 use Rattle.ideal_machine.specs.Values.{State, integer, zero_value}
-use Rattle.ideal_machine.specs.Queries.{Query, Reply, reply_to, event_of}
-use Rattle.ideal_machine.specs.Play.{Play, Gives, Stops, Asks, Jump, Call, Waits, Finished, bind, Log, fresh_log, with_event, with_jump, with_call, Behaviour, Ends, log_of, by_reply, run_query, run}
+use Rattle.ideal_machine.specs.Queries.{Reply, event_of}
+use Rattle.ideal_machine.specs.Play.{Play, Gives, Stops, Asks, Jump, Call, Finished, bind, Log, fresh_log, with_event, with_jump, with_call, log_of, run}
 use Rattle.ideal_machine.specs.Phrases.{Start, leave, put_out, unless_refused, operator_result, arithmetic_result, arithmetic, if_zero}
 use Rattle.ideal_machine.proofs.Runs.{one_reply}
 use Rattle.tree_play.specs.TreePlay.{Around, Flow, Normal, Broke, Continued, Returned, TextPlay, play_expr, play_links, on_normal, after_body, loop, with_zeros, play_stmt, play_stmts, result_of, play_called, around_of, play_thread}
