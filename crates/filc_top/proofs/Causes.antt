@@ -13,14 +13,23 @@ use Rattle.filc_top.specs.declared.ending.Ending.{Ending}
 use Rattle.filc_top.specs.declared.ending.Ending.TheVariants as ending
 
 -- as far as the files are told, what was read is the front of the file
-pub told_file : (files : FilesState) (name read : List ℕ) → length read ≤ MOST_READ → IfSome files.contents (λ all. IsSomeAnd (file_named name all) (λ bytes. read ≡ take MOST_READ bytes)) → HasRead files name read
+pub told_file :
+    (files : FilesState) (name read : List ℕ) → length read ≤ MOST_READ →
+    IfSome files.contents (λ all. IsSomeAnd (file_named name all) (λ bytes. read ≡ take MOST_READ bytes)) →
+    HasRead files name read
 told_file files name read short told = of files.contents refl told
   where
-    named : (all : List (List ℕ × List ℕ)) → files.contents ≡ Some all → (found : Option (List ℕ)) → file_named name all ≡ found → IsSomeAnd found (λ bytes. read ≡ take MOST_READ bytes) → HasRead files name read
+    named :
+        (all : List (List ℕ × List ℕ)) → files.contents ≡ Some all → (found : Option (List ℕ)) →
+        file_named name all ≡ found → IsSomeAnd found (λ bytes. read ≡ take MOST_READ bytes) →
+        HasRead files name read
     named all are None is told = absurd told
     named all are (Some bytes) is told = record { file = bytes; file_is = subst (λ contents. IsFile contents name bytes) (sym are) is; front = told }
 
-    of : (contents : Option (List (List ℕ × List ℕ))) → files.contents ≡ contents → IfSome contents (λ all. IsSomeAnd (file_named name all) (λ bytes. read ≡ take MOST_READ bytes)) → HasRead files name read
+    of :
+        (contents : Option (List (List ℕ × List ℕ))) → files.contents ≡ contents →
+        IfSome contents (λ all. IsSomeAnd (file_named name all) (λ bytes. read ≡ take MOST_READ bytes)) →
+        HasRead files name read
     of None are told = record { file = read; file_is = subst (λ contents. IsFile contents name read) (sym are) tt; front = sym (take_all MOST_READ read short) }
     of (Some all) are told = named all are (file_named name all) refl told
 

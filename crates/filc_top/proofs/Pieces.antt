@@ -15,7 +15,9 @@ append-nothing None = refl
 append-nothing (Some before) = ap (λ (x : List ℕ). Some x) (append-nil before)
 
 -- the pieces in front, the next one, and those after it
-concat-split : {A : Type 0} (f : A → List ℕ) (xs : List A) (i : ℕ) (d : A) → i < length xs → (after : List ℕ) × (concat (map f xs) ≡ concat (map f (take i xs)) ++ (f (get_or xs i d) ++ after)) × (concat (map f (take (suc i) xs)) ≡ concat (map f (take i xs)) ++ f (get_or xs i d))
+concat-split :
+    {A : Type 0} (f : A → List ℕ) (xs : List A) (i : ℕ) (d : A) → i < length xs →
+    (after : List ℕ) × (concat (map f xs) ≡ concat (map f (take i xs)) ++ (f (get_or xs i d) ++ after)) × (concat (map f (take (suc i) xs)) ≡ concat (map f (take i xs)) ++ f (get_or xs i d))
 concat-split f [] i d within = absurd (omega arith)
 concat-split f (x ∷ xs) zero d within = (concat (map f xs), refl, append-nil (f x))
 concat-split f (x ∷ xs) (suc i) d within =
@@ -26,13 +28,20 @@ concat-split f (x ∷ xs) (suc i) d within =
     )
 
 -- one more piece was taken
-pub piece_taken : {A : Type 0} (f : A → List ℕ) (xs : List A) (i : ℕ) (d : A) (old now new : Option (List ℕ)) → i < length xs → now ≡ append old (concat (map f (take i xs))) → new ≡ append now (f (get_or xs i d)) → new ≡ append old (concat (map f (take (suc i) xs)))
+pub piece_taken :
+    {A : Type 0} (f : A → List ℕ) (xs : List A) (i : ℕ) (d : A) (old now new : Option (List ℕ)) →
+    i < length xs → now ≡ append old (concat (map f (take i xs))) → new ≡ append now (f (get_or xs i d)) →
+    new ≡ append old (concat (map f (take (suc i) xs)))
 piece_taken f xs i d old now new within so_far one =
     let split = concat-split f xs i d within in
     one ∙ (ap (λ (o : Option (List ℕ)). append o (f (get_or xs i d))) so_far ∙ (append-append old (concat (map f (take i xs))) (f (get_or xs i d)) ∙ ap (λ (t : List ℕ). append old t) (sym split.2)))
 
 -- the sink failed within the next piece
-pub piece_cut : {A : Type 0} (f : A → List ℕ) (xs : List A) (i : ℕ) (d : A) (old now new : Option (List ℕ)) (count : ℕ) → i < length xs → now ≡ append old (concat (map f (take i xs))) → count < length (f (get_or xs i d)) → new ≡ append now (take count (f (get_or xs i d))) → (all : ℕ) × (all < length (concat (map f xs))) × (new ≡ append old (take all (concat (map f xs))))
+pub piece_cut :
+    {A : Type 0} (f : A → List ℕ) (xs : List A) (i : ℕ) (d : A) (old now new : Option (List ℕ)) (count : ℕ) →
+    i < length xs → now ≡ append old (concat (map f (take i xs))) → count < length (f (get_or xs i d)) →
+    new ≡ append now (take count (f (get_or xs i d))) →
+    (all : ℕ) × (all < length (concat (map f xs))) × (new ≡ append old (take all (concat (map f xs))))
 piece_cut f xs i d old now new count within so_far few cut =
     let split = concat-split f xs i d within in
     let front = concat (map f (take i xs)) in

@@ -62,11 +62,17 @@ module _ (run first second third : List ℕ) where
   not_run_four file turns other (before same is within) = let word : run ≡ codes "run" = cc in other word
   not_run_four file turns other (after same is within) = let word : run ≡ codes "run" = cc in other word
 
-  pub run_before : (name : List ℕ) (turns : ℕ) → run ≡ codes "run" → first ≡ codes "--turns" → (name ≡ third) × IsFileName third × IsTurns turns × (second ≡ decimal turns) → IsRun (run ∷ first ∷ second ∷ third ∷ []) name turns
+  pub run_before :
+      (name : List ℕ) (turns : ℕ) → run ≡ codes "run" → first ≡ codes "--turns" →
+      (name ≡ third) × IsFileName third × IsTurns turns × (second ≡ decimal turns) →
+      IsRun (run ∷ first ∷ second ∷ third ∷ []) name turns
   run_before name turns word option (same, is, within, spelled) =
       before (λ i. word i ∷ option i ∷ spelled i ∷ sym same i ∷ []) (subst IsFileName (sym same) is) within
 
-  pub run_after : (name : List ℕ) (turns : ℕ) → run ≡ codes "run" → second ≡ codes "--turns" → (name ≡ first) × IsFileName first × IsTurns turns × (third ≡ decimal turns) → IsRun (run ∷ first ∷ second ∷ third ∷ []) name turns
+  pub run_after :
+      (name : List ℕ) (turns : ℕ) → run ≡ codes "run" → second ≡ codes "--turns" →
+      (name ≡ first) × IsFileName first × IsTurns turns × (third ≡ decimal turns) →
+      IsRun (run ∷ first ∷ second ∷ third ∷ []) name turns
   run_after name turns word option (same, is, within, spelled) =
       after (λ i. word i ∷ sym same i ∷ option i ∷ spelled i ∷ []) (subst IsFileName (sym same) is) within
 
@@ -81,7 +87,10 @@ module _ (run first second third : List ℕ) where
       let dash : true ≡ false = ap begins_with_dash (sym one) ∙ is.no_dash in
       cc
 
-  pub not_after : (file : List ℕ) (turns : ℕ) → (first ≡ codes "--turns" → ⊥) → (IsFileName first → (n : ℕ) → IsTurns n → third ≡ decimal n → ⊥) → IsRun (run ∷ first ∷ second ∷ third ∷ []) file turns → ⊥
+  pub not_after :
+      (file : List ℕ) (turns : ℕ) → (first ≡ codes "--turns" → ⊥) →
+      (IsFileName first → (n : ℕ) → IsTurns n → third ≡ decimal n → ⊥) →
+      IsRun (run ∷ first ∷ second ∷ third ∷ []) file turns → ⊥
   not_after file turns option other (alone same is default) = cc
   not_after file turns option other (before same is within) = let word : first ≡ codes "--turns" = cc in option word
   not_after file turns option other (after same is within) =

@@ -28,7 +28,10 @@ leaf_front : (names : List (List ℕ)) (e : Expr) (a : List Lexeme) → IsLeaf n
 leaf_front names e a (number n line small same is) = (decimal n, line, same)
 leaf_front names e a (local bytes line place first found same is) = (bytes, line, same)
 
-same_leaf : (names : List (List ℕ)) (t u : Expr) (bytes : List ℕ) (line : ℕ) (letter : Bool) → begins is_letter bytes ≡ letter → IsLeaf names t (Run bytes line ∷ []) → IsLeaf names u (Run bytes line ∷ []) → t ≡ u
+same_leaf :
+    (names : List (List ℕ)) (t u : Expr) (bytes : List ℕ) (line : ℕ) (letter : Bool) →
+    begins is_letter bytes ≡ letter → IsLeaf names t (Run bytes line ∷ []) →
+    IsLeaf names u (Run bytes line ∷ []) → t ≡ u
 same_leaf names t u bytes line true h p q =
     let m = name_only names t bytes line h p in
     let n = name_only names u bytes line h q in
@@ -64,7 +67,10 @@ module _ (r : ℕ) (Operand : ExprSpelling) (one : IsOne Expr Operand (EndsRank 
       let clash : None ≡ Some (out-Link l).op = sym none ∙ op in
       cc
 
-  links_one : (ks ls : List Link) (a b x y : List Lexeme) → AreLinks (suc r) Operand ks a → AreLinks (suc r) Operand ls b → EndsRank (suc r) x → EndsRank (suc r) y → a ++ x ≡ b ++ y → (ks ≡ ls) × (a ≡ b) × (x ≡ y)
+  links_one :
+      (ks ls : List Link) (a b x y : List Lexeme) → AreLinks (suc r) Operand ks a →
+      AreLinks (suc r) Operand ls b → EndsRank (suc r) x → EndsRank (suc r) y → a ++ x ≡ b ++ y →
+      (ks ≡ ls) × (a ≡ b) × (x ≡ y)
   links_one [] [] a b x y p q ends ends' stands = (refl, p ∙ sym q, fronts a b [] [] x y p q stands)
   links_one [] (l ∷ ls) a b x y p q ends ends' stands = absurd (no_link (l ∷ ls) b x y q (omega arith) ends (fronts a b [] b x y p refl stands))
   links_one (k ∷ ks) [] a b x y p q ends ends' stands = absurd (no_link (k ∷ ks) a y x p (omega arith) ends' (sym (fronts a b a [] x y refl q stands)))
@@ -125,7 +131,11 @@ module _ (names : List (List ℕ)) (Inner Operand : ExprSpelling) (inner_one : I
       cc
 
   module _ (t u : Expr) (a b x y : List Lexeme) (stands : a ++ x ≡ b ++ y) where
-    brackets_one : (left right left' right' : ℕ) (inner inner' : List Lexeme) → a ≡ Mark 40 left ∷ (inner ++ Mark 41 right ∷ []) → b ≡ Mark 40 left' ∷ (inner' ++ Mark 41 right' ∷ []) → Inner t inner → Inner u inner' → (t ≡ u) × (a ≡ b) × (x ≡ y)
+    brackets_one :
+        (left right left' right' : ℕ) (inner inner' : List Lexeme) →
+        a ≡ Mark 40 left ∷ (inner ++ Mark 41 right ∷ []) →
+        b ≡ Mark 40 left' ∷ (inner' ++ Mark 41 right' ∷ []) → Inner t inner → Inner u inner' →
+        (t ≡ u) × (a ≡ b) × (x ≡ y)
     brackets_one left right left' right' inner inner' same same' is is' =
         let both : Mark 40 left ∷ ((inner ++ Mark 41 right ∷ []) ++ x) ≡ Mark 40 left' ∷ ((inner' ++ Mark 41 right' ∷ []) ++ y) = fronts a b (Mark 40 left ∷ (inner ++ Mark 41 right ∷ [])) (Mark 40 left' ∷ (inner' ++ Mark 41 right' ∷ [])) x y same same' stands in
         let left_is : left ≡ left' = cc in
@@ -137,7 +147,10 @@ module _ (names : List (List ℕ)) (Inner Operand : ExprSpelling) (inner_one : I
         let rest : x ≡ y = cc in
         (found.0, same ∙ ((λ i. Mark 40 (left_is i) ∷ (found.1 i ++ Mark 41 (right_is i) ∷ [])) ∙ sym same'), rest)
 
-    minus_one : (line line' : ℕ) (operand operand' : Expr) (rest rest' : List Lexeme) → a ≡ Mark 45 line ∷ rest → b ≡ Mark 45 line' ∷ rest' → t ≡ expr.Negate line I32 operand → u ≡ expr.Negate line' I32 operand' → Operand operand rest → Operand operand' rest' → (t ≡ u) × (a ≡ b) × (x ≡ y)
+    minus_one :
+        (line line' : ℕ) (operand operand' : Expr) (rest rest' : List Lexeme) → a ≡ Mark 45 line ∷ rest →
+        b ≡ Mark 45 line' ∷ rest' → t ≡ expr.Negate line I32 operand → u ≡ expr.Negate line' I32 operand' →
+        Operand operand rest → Operand operand' rest' → (t ≡ u) × (a ≡ b) × (x ≡ y)
     minus_one line line' operand operand' rest rest' same same' is is' spelled spelled' =
         let both : Mark 45 line ∷ (rest ++ x) ≡ Mark 45 line' ∷ (rest' ++ y) = fronts a b (Mark 45 line ∷ rest) (Mark 45 line' ∷ rest') x y same same' stands in
         let line_is : line ≡ line' = cc in
@@ -156,7 +169,10 @@ module _ (names : List (List ℕ)) (Inner Operand : ExprSpelling) (inner_one : I
     after_bracket left right inner same is (bracketed left' right' inner' same' is') = brackets_one left right left' right' inner inner' same same' is is'
     after_bracket left right inner same is (negated line operand rest same' is' spelled) = absurd (no_bracket left line (inner ++ Mark 41 right ∷ []) rest a b x y same same' stands)
 
-    after_minus : (line : ℕ) (operand : Expr) (rest : List Lexeme) → a ≡ Mark 45 line ∷ rest → t ≡ expr.Negate line I32 operand → Operand operand rest → IsPrefixed names Inner Operand u b → (t ≡ u) × (a ≡ b) × (x ≡ y)
+    after_minus :
+        (line : ℕ) (operand : Expr) (rest : List Lexeme) → a ≡ Mark 45 line ∷ rest →
+        t ≡ expr.Negate line I32 operand → Operand operand rest → IsPrefixed names Inner Operand u b →
+        (t ≡ u) × (a ≡ b) × (x ≡ y)
     after_minus line operand rest same is spelled (leaf q) = absurd (no_leaf u b a y x 45 line rest q same (sym stands))
     after_minus line operand rest same is spelled (bracketed left right inner same' is') = absurd (no_bracket left line (inner ++ Mark 41 right ∷ []) rest b a y x same' same (sym stands))
     after_minus line operand rest same is spelled (negated line' operand' rest' same' is' spelled') = minus_one line line' operand operand' rest rest' same same' is is' spelled spelled'

@@ -13,7 +13,10 @@ use Rattle.form_reader.proofs.OneExpr.{fronts}
 use Rattle.form_reader.proofs.OneStmt.{stmts_one, stmt_one}
 
 -- the declarations
-declared_one : (seen names names' : List (List ℕ)) (locals locals' : List LocalDef) (a b x y : List Lexeme) → AreDeclarations seen names locals a → AreDeclarations seen names' locals' b → EndsDeclarations x → EndsDeclarations y → a ++ x ≡ b ++ y → (names ≡ names') × (locals ≡ locals') × (x ≡ y)
+declared_one :
+    (seen names names' : List (List ℕ)) (locals locals' : List LocalDef) (a b x y : List Lexeme) →
+    AreDeclarations seen names locals a → AreDeclarations seen names' locals' b → EndsDeclarations x →
+    EndsDeclarations y → a ++ x ≡ b ++ y → (names ≡ names') × (locals ≡ locals') × (x ≡ y)
 declared_one seen [] [] [] [] a b x y p q ends ends' stands = (refl, refl, fronts a b [] [] x y p q stands)
 declared_one seen [] [] [] (d ∷ locals') a b x y p q ends ends' stands = absurd q
 declared_one seen [] [] (d ∷ locals) locals' a b x y p q ends ends' stands = absurd p

@@ -50,7 +50,10 @@ module _ (names : List (List ℕ)) (putchar : Bool) where
   module _ (room : ℕ) (inside : 0 < room → IsOne Stmt (IsStmt names putchar (room - 1)) EndsAnywhere) where
     module _ (s u : Stmt) (x y : List Lexeme) where
       module _ (bytes : List ℕ) (line : ℕ) (start : List Lexeme) where
-        after_return : (value : Expr) (here : List Lexeme) → bytes ≡ codes "return" → start ≡ here ++ x → s ≡ stmt.Return line value → IsClosed 59 (IsExpr names room) value here → WordCase names putchar room u bytes line start y → (s ≡ u) × (x ≡ y)
+        after_return :
+            (value : Expr) (here : List Lexeme) → bytes ≡ codes "return" → start ≡ here ++ x →
+            s ≡ stmt.Return line value → IsClosed 59 (IsExpr names room) value here →
+            WordCase names putchar room u bytes line start y → (s ≡ u) × (x ≡ y)
         after_return value here word split made closed (return_case value' here' word' split' made' closed') =
             let found = semicolon_one names room value value' here here' x y closed closed' tt tt (sym split ∙ split') in
             (made ∙ (ap (stmt.Return line) found.0 ∙ sym made'), found.2)
@@ -61,7 +64,11 @@ module _ (names : List (List ℕ)) (putchar : Bool) where
         after_return value here word split made closed (put_case left end value' here' some word' there split' made' closed') =
             absurd (differ bytes (codes "return") (codes "putchar") refl refl word word')
 
-        after_assign : (sign local : ℕ) (value : Expr) (here : List Lexeme) → is_keyword bytes ≡ false → position (λ name. bytes_eq name bytes) names ≡ Some local → start ≡ Mark 61 sign ∷ (here ++ x) → s ≡ stmt.Assign line local value → IsClosed 59 (IsExpr names (room - 1)) value here → WordCase names putchar room u bytes line start y → (s ≡ u) × (x ≡ y)
+        after_assign :
+            (sign local : ℕ) (value : Expr) (here : List Lexeme) → is_keyword bytes ≡ false →
+            position (λ name. bytes_eq name bytes) names ≡ Some local → start ≡ Mark 61 sign ∷ (here ++ x) →
+            s ≡ stmt.Assign line local value → IsClosed 59 (IsExpr names (room - 1)) value here →
+            WordCase names putchar room u bytes line start y → (s ≡ u) × (x ≡ y)
         after_assign sign local value here other known split made closed (return_case value' here' word split' made' closed') =
             absurd (no_keyword bytes (codes "return") refl word other)
         after_assign sign local value here other known split made closed (assign_case sign' local' value' here' some other' known' split' made' closed') =
@@ -76,7 +83,11 @@ module _ (names : List (List ℕ)) (putchar : Bool) where
         after_assign sign local value here other known split made closed (put_case left end value' here' some word there split' made' closed') =
             absurd (no_keyword bytes (codes "putchar") refl word other)
 
-        after_loop : (left : ℕ) (test : Expr) (body : Stmt) (here last : List Lexeme) → bytes ≡ codes "while" → start ≡ Mark 40 left ∷ (here ++ (last ++ x)) → s ≡ stmt.While line test body → IsClosed 41 (IsExpr names (room - 1)) test here → IsStmt names putchar (room - 1) body last → WordCase names putchar room u bytes line start y → (s ≡ u) × (x ≡ y)
+        after_loop :
+            (left : ℕ) (test : Expr) (body : Stmt) (here last : List Lexeme) → bytes ≡ codes "while" →
+            start ≡ Mark 40 left ∷ (here ++ (last ++ x)) → s ≡ stmt.While line test body →
+            IsClosed 41 (IsExpr names (room - 1)) test here → IsStmt names putchar (room - 1) body last →
+            WordCase names putchar room u bytes line start y → (s ≡ u) × (x ≡ y)
         after_loop left test body here last word split made closed is (return_case value' here' word' split' made' closed') =
             absurd (differ bytes (codes "while") (codes "return") refl refl word word')
         after_loop left test body here last word split made closed is (assign_case sign local value' here' some other known split' made' closed') =
@@ -90,7 +101,11 @@ module _ (names : List (List ℕ)) (putchar : Bool) where
         after_loop left test body here last word split made closed is (put_case left' end value' here' some word' there split' made' closed') =
             absurd (differ bytes (codes "while") (codes "putchar") refl refl word word')
 
-        after_put : (left end : ℕ) (value : Expr) (here : List Lexeme) → bytes ≡ codes "putchar" → start ≡ Mark 40 left ∷ (here ++ (Mark 59 end ∷ x)) → s ≡ stmt.PutChar line value → IsClosed 41 (IsExpr names (room - 1)) value here → WordCase names putchar room u bytes line start y → (s ≡ u) × (x ≡ y)
+        after_put :
+            (left end : ℕ) (value : Expr) (here : List Lexeme) → bytes ≡ codes "putchar" →
+            start ≡ Mark 40 left ∷ (here ++ (Mark 59 end ∷ x)) → s ≡ stmt.PutChar line value →
+            IsClosed 41 (IsExpr names (room - 1)) value here →
+            WordCase names putchar room u bytes line start y → (s ≡ u) × (x ≡ y)
         after_put left end value here word split made closed (return_case value' here' word' split' made' closed') =
             absurd (differ bytes (codes "putchar") (codes "return") refl refl word word')
         after_put left end value here word split made closed (assign_case sign local value' here' some other known split' made' closed') =
@@ -128,7 +143,9 @@ module _ (names : List (List ℕ)) (putchar : Bool) where
         stmts_same : (s ≡ u) × (a ≡ b) × (x ≡ y)
         stmts_same = by (stmt_front names putchar room s a p)
           where
-            by : ((bytes : List ℕ) × (line : ℕ) × (more : List Lexeme) × (a ≡ Run bytes line ∷ more)) ⊎ ((byte line : ℕ) × (more : List Lexeme) × ((byte ≡ 59) ⊎ (byte ≡ 123)) × (a ≡ Mark byte line ∷ more)) → (s ≡ u) × (a ≡ b) × (x ≡ y)
+            by :
+                ((bytes : List ℕ) × (line : ℕ) × (more : List Lexeme) × (a ≡ Run bytes line ∷ more)) ⊎ ((byte line : ℕ) × (more : List Lexeme) × ((byte ≡ 59) ⊎ (byte ≡ 123)) × (a ≡ Mark byte line ∷ more)) →
+                (s ≡ u) × (a ≡ b) × (x ≡ y)
             by (inl (bytes, line, more, front)) =
                 let here : Run bytes line ∷ (more ++ x) ≡ a ++ x = sym (ap (λ (t : List Lexeme). t ++ x) front) in
                 with_fronts
