@@ -10,13 +10,18 @@ use Rattle.c_types.specs.Layouts.{PlainPlacement, Placements, placement_of, go_o
 
 module _ (form : Form) (members : List CType) (so_far : Placements) (i : ℕ) (left : placements_of form no_placements members ≡ placements_of form so_far (drop i members)) where
   -- the member at i is laid next
-  next_member : (m : CType) → i < length members → m ≡ get_or members i m → placements_of form no_placements members ≡ go_on so_far (placement_of form so_far.end so_far.align (room_of m)) (λ next. placements_of form next (drop (i + 1) members))
+  next_member :
+      (m : CType) → i < length members → m ≡ get_or members i m →
+      placements_of form no_placements members ≡ go_on so_far (placement_of form so_far.end so_far.align (room_of m)) (λ next. placements_of form next (drop (i + 1) members))
   unfolding placements_of
   next_member m h e =
       left ∙ at_drop_more (placements_of form so_far) members i m h
       ∙ ap (λ (x : CType). go_on so_far (placement_of form so_far.end so_far.align (room_of x)) (λ next. placements_of form next (drop (i + 1) members))) (sym e)
 
-  pub laid_further : (m : CType) (s : PlainPlacement) → i < length members → m ≡ get_or members i m → placement_of form so_far.end so_far.align (room_of m) ≡ Ok s → placements_of form no_placements members ≡ placements_of form (record { offsets = so_far.offsets ++ s.offset ∷ []; end = s.end; align = s.align }) (drop (i + 1) members)
+  pub laid_further :
+      (m : CType) (s : PlainPlacement) → i < length members → m ≡ get_or members i m →
+      placement_of form so_far.end so_far.align (room_of m) ≡ Ok s →
+      placements_of form no_placements members ≡ placements_of form (record { offsets = so_far.offsets ++ s.offset ∷ []; end = s.end; align = s.align }) (drop (i + 1) members)
   laid_further m s h e f =
       next_member m h e ∙ ap (λ (r : Result PlainPlacement TypeFault). go_on so_far r (λ next. placements_of form next (drop (i + 1) members))) f
 

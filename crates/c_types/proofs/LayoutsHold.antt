@@ -62,12 +62,18 @@ alignment_positive (Union tag contents) = contents_align contents
 after : Form → Placements → Room → Placements
 after form p room = record { offsets = p.offsets ++ offset_of form p.end room.align ∷ []; end = max p.end (offset_of form p.end room.align + room.size); align = max p.align room.align }
 
-not_too_large : (large : Bool) (p q : Placements) (s : PlainPlacement) (rest : Placements → Result Placements TypeFault) → go_on p (cond large (Err TooLarge) (Ok s)) rest ≡ Ok q → rest (record { offsets = p.offsets ++ s.offset ∷ []; end = s.end; align = s.align }) ≡ Ok q
+not_too_large :
+    (large : Bool) (p q : Placements) (s : PlainPlacement) (rest : Placements → Result Placements TypeFault) →
+    go_on p (cond large (Err TooLarge) (Ok s)) rest ≡ Ok q →
+    rest (record { offsets = p.offsets ++ s.offset ∷ []; end = s.end; align = s.align }) ≡ Ok q
 not_too_large true p q s rest h = cc
 not_too_large false p q s rest h = h
 
 -- a member that is laid has a size, and the others are laid after it
-one_laid : (form : Form) (p q : Placements) (ms : List CType) (r : Result Room TypeFault) → go_on p (placement_of form p.end p.align r) (λ next. placements_of form next ms) ≡ Ok q → (room : Room) × (r ≡ Ok room) × (placements_of form (after form p room) ms ≡ Ok q)
+one_laid :
+    (form : Form) (p q : Placements) (ms : List CType) (r : Result Room TypeFault) →
+    go_on p (placement_of form p.end p.align r) (λ next. placements_of form next ms) ≡ Ok q →
+    (room : Room) × (r ≡ Ok room) × (placements_of form (after form p room) ms ≡ Ok q)
 unfolding after
 one_laid form p q ms (Err fault) h = cc
 one_laid form p q ms (Ok room) h = (

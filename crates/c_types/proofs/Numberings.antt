@@ -56,7 +56,10 @@ module _ (entries : List Entry) (before after : BTreeMap Entry ℕ) (entry : Ent
   same_as_new : (e : Entry) → is_at ((EntryOrder.ghosts).cmp entry) e ≡ true → entry ≡ e
   same_as_new e h = same_entry entry e (told_equal ((EntryOrder.ghosts).cmp entry e) h)
 
-  found_after : (b : Bool) (e : Entry) (n : ℕ) → is_at ((EntryOrder.ghosts).cmp entry) e ≡ b → cond b (Some (length entries)) (get (EntryOrder.ghosts).cmp before e) ≡ Some n → slice_get (entries ++ entry ∷ []) n ≡ Some e
+  found_after :
+      (b : Bool) (e : Entry) (n : ℕ) → is_at ((EntryOrder.ghosts).cmp entry) e ≡ b →
+      cond b (Some (length entries)) (get (EntryOrder.ghosts).cmp before e) ≡ Some n →
+      slice_get (entries ++ entry ∷ []) n ≡ Some e
   found_after true e n t h =
       let number : length entries ≡ n = cc in
       subst (λ (k : ℕ). slice_get (entries ++ entry ∷ []) k ≡ Some e) number (slice_get-push_at entries entry ∙ ap Some (same_as_new e t))
@@ -64,7 +67,10 @@ module _ (entries : List Entry) (before after : BTreeMap Entry ℕ) (entry : Ent
       let old = ok.found e n h in
       slice_get-push_before entries entry n (slice_get_within entries n e old) ∙ old
 
-  known_after : (b : Bool) (e : Entry) (n : ℕ) → is_at ((EntryOrder.ghosts).cmp entry) e ≡ b → slice_get entries n ≡ Some e → IsTrue (is_derived e) → cond b (Some (length entries)) (get (EntryOrder.ghosts).cmp before e) ≡ Some n
+  known_after :
+      (b : Bool) (e : Entry) (n : ℕ) → is_at ((EntryOrder.ghosts).cmp entry) e ≡ b →
+      slice_get entries n ≡ Some e → IsTrue (is_derived e) →
+      cond b (Some (length entries)) (get (EntryOrder.ghosts).cmp before e) ≡ Some n
   known_after true e n t at d =
       let old = ok.known e n at d in
       let same = ap (λ (x : Entry). get (EntryOrder.ghosts).cmp before x) (same_as_new e t) in

@@ -100,7 +100,8 @@ impl Types {
     /// (C11 6.7.2.3p5).
     pub fn declare(&mut self, tag: Tag) -> Result<u32, AllocError>
         ensures number { IfOk result (λ n. n ≡ length self.old) }
-        ensures entry { IfOk result (λ n. self.new ≡ self.old ++ OfType (tag_type tag n None) ∷ []) }
+        ensures entry { IfOk result (λ n.
+            self.new ≡ self.old ++ OfType (tag_type tag n None) ∷ []) }
         ensures err { OnErr result (self.new ≡ self.old) }
     {
         let Ok(number) = u32::try_from(self.entries.len()) else {
@@ -119,7 +120,8 @@ impl Types {
     /// Gives a structure or union the size and alignment of its contents.
     pub fn complete(&mut self, tag: Tag, number: u32, contents: Extent)
         requires { slice_get self.old number ≡ Some (OfType (tag_type tag number None)) }
-        ensures { self.new ≡ slice_set self.old number (OfType (tag_type tag number (Some contents))) }
+        ensures { self.new
+            ≡ slice_set self.old number (OfType (tag_type tag number (Some contents))) }
     {
         self.entries[number as usize] = Entry::OfType(type_of_tag(tag, number, Some(contents)));
     }

@@ -28,13 +28,19 @@ append-offered taken bytes m n =
     ap (λ rest. append (append taken (take m bytes)) (take n rest)) (take_all _ (drop m bytes) short) ∙ append-more taken bytes m n
 
 -- the front of the file that was found is the front of the file of that name
-pub file_named-found : (name : List ℕ) (files : List (List ℕ × List ℕ)) (file : List ℕ × List ℕ) (front bytes : List ℕ) (n : ℕ) → Some file ≡ find (λ f. bytes_eq f.0 name) files → bytes ≡ file.1 → front ≡ take n bytes → IsSomeAnd (file_named name files) (λ b. front ≡ take n b)
+pub file_named-found :
+    (name : List ℕ) (files : List (List ℕ × List ℕ)) (file : List ℕ × List ℕ) (front bytes : List ℕ) (n : ℕ) →
+    Some file ≡ find (λ f. bytes_eq f.0 name) files → bytes ≡ file.1 → front ≡ take n bytes →
+    IsSomeAnd (file_named name files) (λ b. front ≡ take n b)
 file_named-found name files file front bytes n found is_file is_front =
     let P : Option (List ℕ × List ℕ) → Type 0 = λ o. IsSomeAnd (option_map (λ f. f.1) o) (λ b. front ≡ take n b) in
     subst P found (is_front ∙ ap (take n) is_file)
 
 -- the front of what a reader has left is all that it gives up to a limit
-pub front_of_left : (left : Option (List ℕ)) (limit : ℕ) (before read front : List ℕ) → before ≡ [] → IfSome (option_map (take limit) left) (λ bytes. read ≡ before ++ bytes) → front ≡ take limit read → IfSome left (λ bytes. front ≡ take limit bytes)
+pub front_of_left :
+    (left : Option (List ℕ)) (limit : ℕ) (before read front : List ℕ) → before ≡ [] →
+    IfSome (option_map (take limit) left) (λ bytes. read ≡ before ++ bytes) → front ≡ take limit read →
+    IfSome left (λ bytes. front ≡ take limit bytes)
 front_of_left None limit before read front none given is = tt
 front_of_left (Some bytes) limit before read front none given is =
     is ∙ (ap (take limit) (given ∙ ap (λ start. start ++ take limit bytes) none) ∙ take_all limit (take limit bytes) (omega (arith, length-take limit bytes)))

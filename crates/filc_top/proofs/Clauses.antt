@@ -9,7 +9,7 @@ use Rattle.tree_play.specs.Observable.{finish_of}
 use Rattle.single_thread.specs.Alone.{run_world, history_of_run}
 use Rattle.filc_top.specs.Commands.{IsNoCommand}
 use Rattle.filc_top.specs.Endings.{line_of, not_built}
-use Rattle.filc_top.specs.Headline.{Streams, World, ending_of, HasRun, HasNoForm, HasNotRead, IsCause, usage, unread, refused, ran, no_memory, IsWritten, whole, out_failed, err_failed, IsOutcome}
+use Rattle.filc_top.specs.Headline.{Streams, Devices, ending_of, HasRun, HasNoForm, HasNotRead, IsCause, usage, unread, refused, ran, no_memory, IsWritten, whole, out_failed, err_failed, IsOutcome}
 use Rattle.filc_top.specs.Clauses.{IsOfRun, IsAnswer, IsPutOut, HasRunWhole, HasWriteFault, SaysEnding}
 use Rattle.filc_top.specs.declared.ending.Ending.{Ending}
 use Rattle.filc_top.specs.declared.ending.Ending.TheVariants as ending
@@ -58,7 +58,7 @@ ran_kind words files cause output why = ap kind why.run.cause_is ∙ run_kind (f
 takes_nothing : (output : List ℕ) (old new : Streams) → output ≡ [] → Takes old.out new.out output → Takes old.out new.out []
 takes_nothing output old new none is = is ∙ ap (λ (text : List ℕ). append old.out.taken text) none
 
-module _ (words : List (List ℕ)) (old new : World) (result : Ending) (o : IsOutcome words old new result) where
+module _ (words : List (List ℕ)) (old new : Devices) (result : Ending) (o : IsOutcome words old new result) where
   abbrev Cause : Type 0
   Cause = IsCause words old.files new.files o.cause o.output
 

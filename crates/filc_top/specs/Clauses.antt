@@ -5,7 +5,7 @@ use Rattle.filc_io.specs.Outside.{Takes}
 use Rattle.filc_num.specs.declared.refusal.Refusal.{Refusal}
 use Rattle.filc_top.specs.Commands.{IsNoCommand}
 use Rattle.filc_top.specs.Endings.{line_of, not_built}
-use Rattle.filc_top.specs.Headline.{Streams, World, HasRun, HasNoForm, HasNotRead}
+use Rattle.filc_top.specs.Headline.{Streams, Devices, HasRun, HasNoForm, HasNotRead}
 use Rattle.filc_top.specs.declared.ending.Ending.{Ending}
 use Rattle.filc_top.specs.declared.ending.Ending.TheVariants as ending
 
@@ -29,7 +29,7 @@ pub record IsPutOut (output : List ℕ) (old new : Streams) (result : Ending) : 
   pub err : Takes old.err new.err (line_of result)
 
 -- the file is a program, its run so ended, and what it put out was written
-pub record HasRunWhole (words : List (List ℕ)) (old new : World) (result : Ending) : Type 0 where
+pub record HasRunWhole (words : List (List ℕ)) (old new : Devices) (result : Ending) : Type 0 where
   pub output : List ℕ
   pub ran : HasRun words old.files result output
   pub written : IsPutOut output old.streams new.streams result
@@ -39,7 +39,7 @@ abbrev pub HasWriteFault : Streams → Streams → Type 0
 HasWriteFault old new = HasRisen old.out.faults new.out.faults ⊎ HasRisen old.err.faults new.err.faults
 
 -- each ending by itself
-pub record SaysEnding (words : List (List ℕ)) (old new : World) (result : Ending) : Type 0 where
+pub record SaysEnding (words : List (List ℕ)) (old new : Devices) (result : Ending) : Type 0 where
   pub ran : IsOfRun result → HasRunWhole words old new result
   pub refused : (refusal : Refusal) → result ≡ ending.Refused refusal → (refusal ≡ not_built) × HasNoForm words old.files
   pub usage : result ≡ ending.Usage → IsNoCommand words

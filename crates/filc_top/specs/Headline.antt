@@ -39,12 +39,12 @@ abbrev pub streams : SinkState → SinkState → Streams
 streams out err = record { out = out; err = err }
 
 -- the devices that a call works on, at one moment
-pub record World : Type 0 where
+pub record Devices : Type 0 where
   pub files : FilesState
   pub streams : Streams
 
-abbrev pub world : FilesState → SinkState → SinkState → World
-world files out err = record { files = files; streams = streams out err }
+abbrev pub devices : FilesState → SinkState → SinkState → Devices
+devices files out err = record { files = files; streams = streams out err }
 
 -- ---- the file
 
@@ -154,7 +154,7 @@ pub data IsWritten (cause : Ending) (output : List ℕ) (old new : Streams) (res
       IsWritten cause output old new result
 
 -- what a call with these words makes of the devices, and what it answers
-pub record IsOutcome (words : List (List ℕ)) (old new : World) (result : Ending) : Type 0 where
+pub record IsOutcome (words : List (List ℕ)) (old new : Devices) (result : Ending) : Type 0 where
   pub cause : Ending
   pub output : List ℕ
   pub caused : IsCause words old.files new.files cause output

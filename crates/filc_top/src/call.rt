@@ -4,7 +4,7 @@ ghost use Rattle.std.specs.Prelude.{◌≡◌, ℕ, List, [], map, IfOk, IfErr};
 ghost use Rattle.form_reader.specs.Form.{HasForm};
 ghost use Rattle.filc_top.specs.Clauses.{SaysEnding};
 ghost use Rattle.filc_top.specs.Commands.{IsNoCommand};
-ghost use Rattle.filc_top.specs.Headline.{world, streams, ending_of, IsSilent, IsCause, IsRunOf, IsWritten, IsOutcome};
+ghost use Rattle.filc_top.specs.Headline.{devices, streams, ending_of, IsSilent, IsCause, IsRunOf, IsWritten, IsOutcome};
 ghost use Rattle.filc_top.specs.Steps.{HasRead, EndsReading, EndsFrontEnd};
 
 use crate::command::command_of;
@@ -29,11 +29,11 @@ pub fn filc<'a, F: Files, I: Source, O: Sink, E: Sink>(
     err: &mut E,
 ) -> Ending
     ensures outcome { IsOutcome (map (λ word. word.now) words.now)
-        (world (F.state files.old) (O.state out.old) (E.state err.old))
-        (world (F.state files.new) (O.state out.new) (E.state err.new)) result }
+        (devices (F.state files.old) (O.state out.old) (E.state err.old))
+        (devices (F.state files.new) (O.state out.new) (E.state err.new)) result }
     ensures endings { SaysEnding (map (λ word. word.now) words.now)
-        (world (F.state files.old) (O.state out.old) (E.state err.old))
-        (world (F.state files.new) (O.state out.new) (E.state err.new)) result }
+        (devices (F.state files.old) (O.state out.old) (E.state err.old))
+        (devices (F.state files.new) (O.state out.new) (E.state err.new)) result }
     ensures no_file { IsNoCommand (map (λ word. word.now) words.now) → files.new ≡ files.old }
     ensures contents { (F.state files.new).contents ≡ (F.state files.old).contents }
     ensures input { input.new ≡ input.old }
