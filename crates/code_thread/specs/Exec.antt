@@ -1,9 +1,8 @@
 -- The play of register code: an equation for each instruction.
 --
 -- A thread stands at an index of its function's code and has registers. Each instruction asks what it asks, writes its
--- register, and goes on at the next index, or where it jumps. A jump that doesn't lead forward is marked.
+-- register, and goes on at the next index, or where it jumps. A jump that doesn't lead forward is counted.
 use Rattle.std.specs.Prelude.{ℕ, zero, suc, ◌+◌, ◌*◌, List, Option, Some, None, Bool, true, false, nat_lt, slice_get, replicate, ◌==◌}
-use Rattle.filc_num.specs.declared.registers.TheConstants.{REGISTERS}
 use Rattle.filc_code.specs.declared.op.Instruction.{Instruction}
 use Rattle.filc_code.specs.declared.op.Op.{Op}
 use Rattle.filc_code.specs.declared.op.Op.TheVariants.{Const, Move, Binary, Jump, JumpZero, Return, Out, Exit}
@@ -12,13 +11,13 @@ use Rattle.filc_code.specs.Numbers.{operator_at, type_at}
 use Rattle.ideal_machine.specs.declared.value.Value.{Value}
 use Rattle.ideal_machine.specs.declared.event.Answer.{Answer}
 use Rattle.ideal_machine.specs.Values.{integer, zero_value, value_at, put_at}
-use Rattle.ideal_machine.specs.Play.{Stops, Jump as JumpMark, Waits, Cut, bind, Behaviour, run, fresh_log}
+use Rattle.ideal_machine.specs.Play.{Stops, Jump as JumpBack, Waits, Cut, bind, Behaviour, run, fresh_log}
 use Rattle.ideal_machine.specs.Phrases.{Start, Phrase, exit, leave, put_out, arithmetic, if_zero}
 
--- what follows a jump, which is marked unless it leads forward
+-- what follows a jump, which is counted unless it leads forward
 abbrev pub go_to : Bool → Phrase ℕ → Phrase ℕ
 go_to true next = next
-go_to false next = JumpMark next
+go_to false next = JumpBack next
 
 -- what follows: from an index, with registers
 abbrev pub Next : Type 0
@@ -51,7 +50,7 @@ exec main code (suc m) index registers = act_at main (slice_get code index) (exe
 
 -- a frame's registers when its function is entered: all zero
 unfoldable pub first_registers : List Value
-first_registers = replicate REGISTERS zero_value
+first_registers = replicate 256 zero_value
 
 -- a function from its first instruction on
 abbrev pub exec_called : Bool → Option PlainFunction → ℕ → Phrase ℕ

@@ -170,7 +170,7 @@ is_trap stage = false
 abbrev pub is_trapping : Thread → Bool
 is_trapping thread = is_trap thread.stage
 
--- what a step plays: a mark where it jumped back and has no trap, and then what the thread after it plays
+-- what a step plays: a jump where it jumped back and has no trap, and then what the thread after it plays
 abbrev pub step_play : Thread → Thread → Phrase ℕ → Phrase ℕ
 step_play old new next = go_to (is_trapping new || nat_lt old.index new.index) next
 

@@ -4,7 +4,6 @@
 -- and never goes past a function's end: control leaves the last instruction only by a jump or
 -- by the function's return.
 use Rattle.std.specs.Prelude.{ℕ, ◌<◌, ◌≤◌, List, [], ◌∷◌, All, length}
-use Rattle.filc_num.specs.declared.registers.TheConstants.{REGISTERS}
 use Rattle.filc_code.specs.declared.op.Instruction.{Instruction}
 use Rattle.filc_code.specs.declared.op.Op.{Op}
 use Rattle.filc_code.specs.declared.op.Op.TheVariants.{Const, Move, Binary, Jump, JumpZero, Return, Out, Exit}
@@ -60,7 +59,7 @@ EndsInLeaving (i ∷ j ∷ more) = EndsInLeaving (j ∷ more)
 
 -- what each function's code keeps
 pub record IsFunctionWellFormed (f : PlainFunction) : Type 0 where
-  pub values : f.values ≤ REGISTERS
+  pub values : f.values ≤ 256
   pub parameters : f.parameters ≤ f.values
   pub each : All (λ (i : Instruction). IsOpWellFormed f.values (length f.instructions) i.op) f.instructions
   pub ends : EndsInLeaving f.instructions

@@ -1,7 +1,7 @@
 -- The memory of the abstract machine: what C's text can know of the world, and nothing of how it is kept.
 --
--- Objects are numbered in the order in which they were made, and none is ever taken away: `free` leaves a
--- mark. The two halves of a pointer at rest are apart: a word has an integer and a half, and a store of
+-- Objects are numbered in the order in which they were made, and none is ever taken away: `free` sets
+-- `freed`. The two halves of a pointer at rest are apart: a word has an integer and a half, and a store of
 -- one leaves the other. A pair is both at once, for atomic pointers; pairs are numbered in the order in
 -- which they were stored. Each thread has a slot.
 use Rattle.std.specs.Prelude.{ℕ, ◌+◌, ◌*◌, ◌-◌, List, [], ◌∷◌, Bool, Option, Some, None, replicate, slice_get}

@@ -5,7 +5,7 @@
 -- that asks for what isn't there, or gets an answer that doesn't fit, waits; that event isn't made.
 --
 -- A play gives a state and a value of any type, and `bind` is the only way to put one after another. Every definition of
--- a play has a bound, since a loop may go on for ever: where the bound is reached the play is cut. A mark stands
+-- a play has a bound, since a loop may go on for ever: where the bound is reached the play is cut. A play says
 -- where code jumps back, and where a function is called, so `run` counts both.
 use Rattle.std.specs.Prelude.{ℕ, ◌+◌, List, [], ◌∷◌, ◌++◌, Option, Some, None}
 use Rattle.ideal_machine.specs.declared.finish.Finish.{Finish}
@@ -19,8 +19,8 @@ pub data Stop : Type 0 where
   Waits : Stop
   Cut : Stop
 
--- a play: it gives a state and a value to what goes on from there, stops, or asks and goes on by the reply; or it passes the
--- mark of a backward jump, or of a call
+-- a play: it gives a state and a value to what goes on from there, stops, or asks and goes on by the reply; or it
+-- makes a backward jump, or a call
 pub data Play (S A : Type 0) : Type 0 where
   Gives : (state : S) (value : A) → Play S A
   Stops : (stop : Stop) → Play S A

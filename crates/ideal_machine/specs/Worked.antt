@@ -1,13 +1,14 @@
 -- Worked examples of the transitions, in the first memory of a program whose `main` has number 0, and of replies.
-use Rattle.std.specs.Prelude.{◌≡◌, ℕ, [], ◌∷◌, true, Some, None, slice_get}
+use Rattle.std.specs.Prelude.{◌≡◌, ℕ, Bool, [], ◌∷◌, true, false, Some, None, slice_get}
 use Rattle.filc_num.specs.declared.reason.Reason.TheVariants.{OutputLimit, Divide, NoCell}
 use Rattle.ideal_machine.specs.declared.value.Half.{Half}
-use Rattle.ideal_machine.specs.declared.value.Half.TheVariants.{Nothing}
+use Rattle.ideal_machine.specs.declared.value.Half.TheVariants.{Nothing, Freed, Object as ObjectHalf}
 use Rattle.ideal_machine.specs.declared.finish.Finish.TheVariants.{Exited}
-use Rattle.ideal_machine.specs.declared.event.Event.TheVariants.{Check, Lock, Out, Input, Spawn, Begin, End, Join, Trap}
+use Rattle.ideal_machine.specs.declared.event.Event.TheVariants.{Check, Void, Size, Lock, Name, Out, Input, Spawn, Begin, End, Join, Exit, Trap}
 use Rattle.ideal_machine.specs.declared.event.Answer.TheVariants.{Granted, Refused, Done, Number, Absent, End as InputEnd}
-use Rattle.ideal_machine.specs.Memory.{Memory, World, Started, default_world, first_memory, thread_id}
+use Rattle.ideal_machine.specs.Memory.{Memory, Object, World, Started, default_world, first_memory, thread_id}
 use Rattle.ideal_machine.specs.Allows.{IsAllowed, effect_of, with_finish}
+use Rattle.ideal_machine.specs.Names.{KeepsApart, IsShownAs}
 use Rattle.ideal_machine.specs.Queries.{Makes, ChecksForCell, Locks, reply_to, event_of, Taken, CheckedAgain}
 
 -- a run whose input is the letter A
@@ -36,7 +37,9 @@ MainBeginsOnce = ¬ IsAllowed world at_begin 0 (Begin 0 0 Nothing) Done
 
 -- a program ends once
 abbrev pub EndsOnce : Type 0
-EndsOnce = ¬ IsAllowed world (with_finish at_begin (Exited 3)) 0 (Trap Divide 1) Done
+EndsOnce =
+    (¬ IsAllowed world (with_finish at_begin (Exited 3)) 0 (Trap Divide 1) Done)
+    × (¬ IsAllowed world (with_finish at_begin (Exited 3)) 0 (Exit 3) Done)
 
 -- ---- bytes
 
@@ -119,6 +122,8 @@ CellIsWantedByPointers =
     (half : Half) (address : ℕ) →
     (reply_to (ChecksForCell half address) (Refused NoCell) ≡ Some (Some NoCell))
     × (reply_to (Makes (Check half address 8 true)) (Refused NoCell) ≡ None)
+    × (reply_to (Makes (Void half address)) (Refused NoCell) ≡ None)
+    × (reply_to (Makes (Size half address)) (Refused NoCell) ≡ None)
 
 -- a lock that is answered as a check was checked once more; it is made where it is done
 abbrev pub LocksAreCheckedAgain : Type 0
@@ -128,3 +133,23 @@ LocksAreCheckedAgain =
     × (event_of (Locks half address object offset) (CheckedAgain None) ≡ Check half address 4 true)
     × (reply_to (Locks half address object offset) Done ≡ Some Taken)
     × (event_of (Locks half address object offset) Taken ≡ Lock object offset)
+
+-- ---- names
+
+-- the memory with one object of 8 bytes, which was freed or wasn't, and is covered or isn't
+abbrev pub with_object : (freed covered : Bool) → Memory
+with_object freed covered = record at_begin {
+  objects = record { address = 65536; bytes = 8; kind = 0; freed = freed; covered = covered; words = [] } ∷ [];
+}
+
+-- Freed stands for the half of an object that was freed, and of no other
+abbrev pub FreedIsShown : Type 0
+FreedIsShown =
+    IsShownAs (with_object true false) (Name (ObjectHalf 0) 65536) (Name Freed 65536)
+    × (¬ IsShownAs (with_object false false) (Name (ObjectHalf 0) 65536) (Name Freed 65536))
+
+-- no event names a covered object
+abbrev pub CoveredIsNotNamed : Type 0
+CoveredIsNotNamed =
+    KeepsApart (with_object true false) (Check (ObjectHalf 0) 65536 1 false) Granted
+    × (¬ KeepsApart (with_object true true) (Check (ObjectHalf 0) 65536 1 false) Granted)

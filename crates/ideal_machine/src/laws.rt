@@ -6,6 +6,7 @@ ghost use Rattle.ideal_machine.specs.Worked.{RefusalWithoutRoom, NoByteWithoutRo
 ghost use Rattle.ideal_machine.specs.Worked.{SpawnGivesAFreeSlot, NoIdOfAnotherSlot};
 ghost use Rattle.ideal_machine.specs.Worked.{SpawnedThreadBegins, ResultIsTakenOnce};
 ghost use Rattle.ideal_machine.specs.Worked.{CellIsWantedByPointers, LocksAreCheckedAgain};
+ghost use Rattle.ideal_machine.specs.Worked.{FreedIsShown, CoveredIsNotNamed};
 
 /// The first memory lets `main` begin, in slot 0 and once.
 pub fn main_begins_first()
@@ -47,4 +48,10 @@ pub fn ids_are_of_their_slots()
 pub fn replies_fit_their_queries()
     ensures cell_is_wanted_by_pointers { CellIsWantedByPointers }
     ensures locks_are_checked_again { LocksAreCheckedAgain }
+{}
+
+/// Freed stands for the half of a freed object alone, and no event names a covered object.
+pub fn names_are_apart()
+    ensures freed { FreedIsShown }
+    ensures covered { CoveredIsNotNamed }
 {}

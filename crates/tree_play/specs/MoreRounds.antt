@@ -1,4 +1,4 @@
--- A history stays legal with a greater bound, so its bound is no claim of its own.
+-- A history stays legal with a greater bound: a smaller bound says more.
 use Rattle.std.specs.Prelude.{ℕ, ◌≤◌}
 use Rattle.c_tree.specs.Plain.{PlainProgram}
 use Rattle.ideal_machine.specs.Memory.{World}

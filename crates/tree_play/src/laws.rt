@@ -4,6 +4,7 @@ ghost use Rattle.tree_play.specs.Beginnings.{BeginningsAreLegal};
 ghost use Rattle.tree_play.specs.EndsLast.{NothingFollowsAnEnd};
 ghost use Rattle.tree_play.specs.MoreRounds.{MoreRounds};
 ghost use Rattle.tree_play.specs.Worked.{MainReturns, NothingElse, NothingAfterExit, NoSecondBegin};
+ghost use Rattle.tree_play.specs.Worked.{ThreadsHaveTheirIds};
 
 /// A history stays legal where each loop may make more rounds.
 pub fn histories_stay_legal()
@@ -26,4 +27,9 @@ pub fn a_program_returns_once()
     ensures nothing_else { NothingElse }
     ensures nothing_after_exit { NothingAfterExit }
     ensures no_second_begin { NoSecondBegin }
+{}
+
+/// A thread is begun with the id of its slot and of the slot's generation.
+pub fn threads_have_their_ids()
+    ensures { ThreadsHaveTheirIds }
 {}
