@@ -1,6 +1,6 @@
 //! Each row is a call on files, sinks and a source in memory.
 
-use filc_io::{MemFiles, MemSink, MemSource};
+use filc_io::{FileFault, Files, MemFiles, MemSink, MemSource};
 use filc_num::Reason;
 use filc_top::{Ending, Refusal, RefusalKind, filc};
 use std::alloc::Global;
@@ -294,15 +294,23 @@ fn a_device_that_fails_ends_the_call(rt: HostRuntime) -> Result<(), Fail> {
 }
 
 #[test]
+fn a_file_is_read_once(rt: HostRuntime) -> Result<(), Fail> {
+    let alloc = rt.alloc();
+    let mut files = MemFiles::new(alloc, &[1])?;
+    files.add("a.c", b"int main(void){return 42;}")?;
+    let mut input = MemSource::new(alloc, b"", 1, &[])?;
+    let mut out = MemSink::new(alloc, 10, 10, &[])?;
+    let mut err = MemSink::new(alloc, 10, 10, &[])?;
+    let ending = filc(alloc, RUN, &mut files, &mut input, &mut out, &mut err);
+    assert_eq!(rt; ending, Ending::Exited(42));
+    let second = files.read_file(alloc, "a.c");
+    assert!(rt; matches!(&second, Err(FileFault::Failed)));
+    Ok(())
+}
+
+#[test]
 fn a_device_is_called_no_more_than_it_must(rt: HostRuntime) -> Result<(), Fail> {
     for (row, fails) in [
-        (
-            exits("the file is read once", "int main(void){return 42;}", 42),
-            Fails {
-                files: &[1],
-                ..NONE
-            },
-        ),
         (
             silent(
                 "no file is read for words that are no command",
