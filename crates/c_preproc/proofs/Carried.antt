@@ -1,243 +1,233 @@
--- The blocks one after another: the tokens in hand, and the outcome of what is left.
-use Rattle.std.proofs.Common.{codes, ◌≡◌, ℕ, ◌+◌, ◌&&◌, List, [], ◌∷◌, ◌++◌, Bool, true, false, not, cond, refl, ap, sym, ◌∙◌, subst, arith, length, take, drop, Option, Some, None, Result, Ok, Err, length-append}
-use Rattle.std.proofs.lemmas.Bool.{and_parts, le-leb}
-use Rattle.std.proofs.lemmas.List.{append-nil}
-use Rattle.std.specs.Prelude.{reverse}
+-- The blocks one after another: what a step leaves alone, and the outcome of what is left.
+use Rattle.std.proofs.Common.{codes, ◌≡◌, ℕ, zero, suc, ◌+◌, ◌&&◌, ◌||◌, List, [], ◌∷◌, ◌++◌, Bool, true, false, not, cond, refl, ap, sym, ◌∙◌, subst, arith, length, take, drop, Option, Some, None, Result, Ok, Err}
+use Rattle.std.proofs.lemmas.Bool.{and_parts}
 use Rattle.std.specs.List.{list_all, filter}
+use Rattle.std.specs.Option.{option_map}
 use Rattle.c_lexer.specs.declared.token.Token.{Token}
 use Rattle.c_preproc.specs.declared.fault.PreFault.{PreFault}
 use Rattle.c_preproc.specs.declared.fault.PreFault.TheVariants as fault
-use Rattle.c_preproc.specs.declared.state.Group.{Group}
-use Rattle.c_preproc.specs.Texts.{text_of, same_text, same_tokens, is_word}
-use Rattle.c_preproc.specs.Directives.{Block, Plain, Directive, blocks_of, Command, Nothing, Include, Define, Undefine, If, IfDefined, IfUndefined, ElseIf, Else, EndIf, Pragma, Unknown, command_of}
-use Rattle.c_preproc.specs.Macros.{Macro, macro_of}
-use Rattle.c_preproc.specs.Expansion.{Outcome, State, is_active, condition_of, only_name, hash_line, defined_again, or_hash, defined_by, undefined_by, opened_if, opened_by_name, in_group, turned, else_if, is_nothing, else_of, end_of, carried_out, passed_over, after_directive, then_state, with_tokens, after_token, carried, filc_macro, first_state, bytes_with_one}
-use Rattle.c_preproc.specs.Within.{macros_within}
+use Rattle.c_preproc.specs.Texts.{text_of, same_text, same_tokens, same_kind, is_name, is_mark}
+use Rattle.c_lexer.specs.declared.token.TokenKind.TheVariants.{End}
+use Rattle.c_preproc.specs.Directives.{Block, Plain, Directive, blocks_of, rest_of_line, Command, Nothing, Include, Define, Undefine, If, IfDefined, IfUndefined, ElseIf, Else, EndIf, Pragma, Unknown, command_of}
+use Rattle.c_preproc.specs.Macros.{Macro, macro_of, without}
+use Rattle.c_preproc.specs.Outcomes.{and_then}
+use Rattle.c_preproc.specs.Expansion.{Group, Outside, Waiting, Active, Past, State, after_block, after_blocks, after_directive, after_group, after_token, bare, carry_out, condition_of, define, defined_again, else_if, else_of, end_if, group_if, has_parameters, hash_line, is_active, is_defined, no_hash, only_name, open_if, or_directive, pass_over, undefine, with_expansion, with_groups}
 
--- ---- one block
+-- ---- one block in front
 
--- a token that is no part of a directive
-pub on_token : (bytes : List ℕ) (state after : State) (out more : List Token) (whole : Outcome) (rest ahead : List Token) (token : Token) (behind : List Block) → rest ≡ token ∷ ahead → blocks_of bytes 0 (token ∷ ahead) ≡ Plain token ∷ blocks_of bytes 0 ahead → ((next : State → Outcome) → with_tokens out (after_token bytes state token next) ≡ with_tokens more (next after)) → with_tokens out (carried bytes state (blocks_of bytes 0 rest ++ behind)) ≡ whole → with_tokens more (carried bytes after (blocks_of bytes 0 ahead ++ behind)) ≡ whole
-unfolding carried
-on_token bytes state after out more whole rest ahead token behind is block goes told =
-    sym (goes (λ s. carried bytes s (blocks_of bytes 0 ahead ++ behind)))
-    ∙ ap (λ blocks. with_tokens out (carried bytes state (blocks ++ behind))) (sym block)
-    ∙ ap (λ ts. with_tokens out (carried bytes state (blocks_of bytes 0 ts ++ behind))) (sym is) ∙ told
+pub on_block : (bytes : List ℕ) (s s' : State) (block : Block) (rest ahead left : List Token) (t : Token) (whole : Result State PreFault) → rest ≡ t ∷ ahead → blocks_of bytes 0 (t ∷ ahead) ≡ block ∷ blocks_of bytes 0 left → after_block s block ≡ Ok s'
+    → after_blocks s (blocks_of bytes 0 rest) ≡ whole → after_blocks s' (blocks_of bytes 0 left) ≡ whole
+unfolding after_blocks
+on_block bytes s s' block rest ahead left t whole is front goes told =
+    sym (ap (λ r. and_then r (λ after. after_blocks after (blocks_of bytes 0 left))) goes)
+    ∙ ap (after_blocks s) (sym front) ∙ ap (λ ts. after_blocks s (blocks_of bytes 0 ts)) (sym is) ∙ told
 
-pub on_token_fault : (bytes : List ℕ) (state : State) (out : List Token) (whole : Outcome) (rest ahead : List Token) (token : Token) (behind : List Block) (why : PreFault) → rest ≡ token ∷ ahead → blocks_of bytes 0 (token ∷ ahead) ≡ Plain token ∷ blocks_of bytes 0 ahead → ((next : State → Outcome) → after_token bytes state token next ≡ Err why) → with_tokens out (carried bytes state (blocks_of bytes 0 rest ++ behind)) ≡ whole → whole ≡ Err why
-unfolding carried
-on_token_fault bytes state out whole rest ahead token behind why is block goes told =
-    sym told ∙ ap (λ ts. with_tokens out (carried bytes state (blocks_of bytes 0 ts ++ behind))) is
-    ∙ ap (λ blocks. with_tokens out (carried bytes state (blocks ++ behind))) block
-    ∙ ap (with_tokens out) (goes (λ s. carried bytes s (blocks_of bytes 0 ahead ++ behind)))
+pub on_block_fault : (bytes : List ℕ) (s : State) (block : Block) (rest ahead left : List Token) (t : Token) (why : PreFault) (whole : Result State PreFault) → rest ≡ t ∷ ahead → blocks_of bytes 0 (t ∷ ahead) ≡ block ∷ blocks_of bytes 0 left → after_block s block ≡ Err why
+    → after_blocks s (blocks_of bytes 0 rest) ≡ whole → whole ≡ Err why
+unfolding after_blocks
+on_block_fault bytes s block rest ahead left t why whole is front fails told =
+    sym told ∙ ap (λ ts. after_blocks s (blocks_of bytes 0 ts)) is ∙ ap (after_blocks s) front
+    ∙ ap (λ r. and_then r (λ after. after_blocks after (blocks_of bytes 0 left))) fails
 
--- a directive
-pub on_carried : (bytes : List ℕ) (state after : State) (out : List Token) (whole : Outcome) (rest ahead line left : List Token) (hash : Token) (count : ℕ) (behind : List Block) → rest ≡ hash ∷ ahead → blocks_of bytes 0 (hash ∷ ahead) ≡ Directive hash (take count ahead) ∷ blocks_of bytes 0 (drop count ahead) → line ≡ take count ahead → left ≡ drop count ahead → after_directive bytes hash.line state (command_of bytes line) ≡ Ok after → with_tokens out (carried bytes state (blocks_of bytes 0 rest ++ behind)) ≡ whole → with_tokens out (carried bytes after (blocks_of bytes 0 left ++ behind)) ≡ whole
-unfolding carried
-on_carried bytes state after out whole rest ahead line left hash count behind is block lines lefts goes told =
-    let next : State → Outcome = λ s. carried bytes s (blocks_of bytes 0 (drop count ahead) ++ behind) in
-    ap (λ ts. with_tokens out (carried bytes after (blocks_of bytes 0 ts ++ behind))) lefts
-    ∙ ap (λ r. with_tokens out (then_state r next)) (sym goes ∙ ap (λ ts. after_directive bytes hash.line state (command_of bytes ts)) lines)
-    ∙ ap (λ blocks. with_tokens out (carried bytes state (blocks ++ behind))) (sym block)
-    ∙ ap (λ ts. with_tokens out (carried bytes state (blocks_of bytes 0 ts ++ behind))) (sym is) ∙ told
+pub on_no_block : (bytes : List ℕ) (s : State) (rest : List Token) (whole : Result State PreFault) → rest ≡ [] → after_blocks s (blocks_of bytes 0 rest) ≡ whole → whole ≡ Ok s
+unfolding after_blocks blocks_of
+on_no_block bytes s rest whole none told = sym told ∙ ap (λ ts. after_blocks s (blocks_of bytes 0 ts)) none
 
-pub on_carried_fault : (bytes : List ℕ) (state : State) (out : List Token) (whole : Outcome) (rest ahead line : List Token) (hash : Token) (count : ℕ) (behind : List Block) (why : PreFault) → rest ≡ hash ∷ ahead → blocks_of bytes 0 (hash ∷ ahead) ≡ Directive hash (take count ahead) ∷ blocks_of bytes 0 (drop count ahead) → line ≡ take count ahead → after_directive bytes hash.line state (command_of bytes line) ≡ Err why → with_tokens out (carried bytes state (blocks_of bytes 0 rest ++ behind)) ≡ whole → whole ≡ Err why
-unfolding carried
-on_carried_fault bytes state out whole rest ahead line hash count behind why is block lines goes told =
-    let next : State → Outcome = λ s. carried bytes s (blocks_of bytes 0 (drop count ahead) ++ behind) in
-    sym told ∙ ap (λ ts. with_tokens out (carried bytes state (blocks_of bytes 0 ts ++ behind))) is
-    ∙ ap (λ blocks. with_tokens out (carried bytes state (blocks ++ behind))) block
-    ∙ ap (λ r. with_tokens out (then_state r next)) (ap (λ ts. after_directive bytes hash.line state (command_of bytes ts)) (sym lines) ∙ goes)
+-- ---- what a directive leaves alone
 
--- the end of the list
-pub on_carried_end : (bytes : List ℕ) (state : State) (out : List Token) (whole : Outcome) (rest : List Token) (behind : List Block) → rest ≡ [] → with_tokens out (carried bytes state (blocks_of bytes 0 rest ++ behind)) ≡ whole → whole ≡ with_tokens out (carried bytes state behind)
-unfolding blocks_of
-on_carried_end bytes state out whole rest behind is told =
-    sym told ∙ ap (λ ts. with_tokens out (carried bytes state (blocks_of bytes 0 ts ++ behind))) is
+abbrev pub Keeps : {A : Type 0} → (A → Type 0) → Result A PreFault → Type 0
+Keeps P (Ok x) = P x
+Keeps P (Err why) = Unit {0}
 
--- ---- the whole list
+pub keeps_then : {A B : Type 0} (P : B → Type 0) (r : Result A PreFault) (next : A → Result B PreFault) → ((x : A) → r ≡ Ok x → Keeps P (next x)) → Keeps P (and_then r next)
+keeps_then P (Ok x) next h = h x refl
+keeps_then P (Err why) next h = tt
 
-with_nothing : (o : Outcome) → with_tokens [] o ≡ o
-with_nothing (Ok tokens) = refl
-with_nothing (Err why) = refl
+pub keeps_cond : {A : Type 0} (P : A → Type 0) (b : Bool) (x y : Result A PreFault) → (b ≡ true → Keeps P x) → (b ≡ false → Keeps P y) → Keeps P (cond b x y)
+keeps_cond P true x y hx hy = hx refl
+keeps_cond P false x y hx hy = hy refl
 
-whole_list : (bytes : List ℕ) (state : State) (tokens : List Token) → with_tokens [] (carried bytes state (blocks_of bytes 0 tokens ++ [])) ≡ carried bytes state (blocks_of bytes 0 tokens)
-whole_list bytes state tokens =
-    with_nothing (carried bytes state (blocks_of bytes 0 tokens ++ [])) ∙ ap (carried bytes state) (append-nil (blocks_of bytes 0 tokens))
+pub kept : {A : Type 0} (P : A → Type 0) (r : Result A PreFault) (x : A) → Keeps P r → r ≡ Ok x → P x
+kept P r x h e = subst (Keeps P) e h
 
--- the state at the beginning
-first_is : (file : List ℕ) (macros : List Macro) (groups : List Group) → macros ≡ filc_macro file ∷ [] → groups ≡ [] → record { macros = macros; groups = reverse groups; count = 0 } ≡ first_state file
-first_is file macros groups first none = rw (first, none) refl
-
-pub on_whole : (file bytes : List ℕ) (macros : List Macro) (groups : List Group) (after : State) (tokens start out : List Token) → macros ≡ filc_macro file ∷ [] → groups ≡ [] → start ≡ [] → ((behind : List Block) → with_tokens start (carried bytes (record { macros = macros; groups = reverse groups; count = 0 }) (blocks_of bytes 0 tokens ++ behind)) ≡ with_tokens out (carried bytes after behind)) → carried bytes (first_state file) (blocks_of bytes 0 tokens) ≡ Ok out
-unfolding carried
-on_whole file bytes macros groups after tokens start out first none empty told =
-    let blocks : List Block = blocks_of bytes 0 tokens ++ [] in
-    sym (whole_list bytes (first_state file) tokens)
-    ∙ ap (λ s. with_tokens [] (carried bytes s blocks)) (sym (first_is file macros groups first none))
-    ∙ ap (λ ts. with_tokens ts (carried bytes (record { macros = macros; groups = reverse groups; count = 0 }) blocks)) (sym empty)
-    ∙ told [] ∙ ap Ok (append-nil out)
-
-pub on_whole_fault : (file bytes : List ℕ) (macros : List Macro) (groups : List Group) (tokens start : List Token) (why : PreFault) → macros ≡ filc_macro file ∷ [] → groups ≡ [] → start ≡ [] → ((behind : List Block) → with_tokens start (carried bytes (record { macros = macros; groups = reverse groups; count = 0 }) (blocks_of bytes 0 tokens ++ behind)) ≡ Err why) → carried bytes (first_state file) (blocks_of bytes 0 tokens) ≡ Err why
-on_whole_fault file bytes macros groups tokens start why first none empty told =
-    let blocks : List Block = blocks_of bytes 0 tokens ++ [] in
-    sym (whole_list bytes (first_state file) tokens)
-    ∙ ap (λ s. with_tokens [] (carried bytes s blocks)) (sym (first_is file macros groups first none))
-    ∙ ap (λ ts. with_tokens ts (carried bytes (record { macros = macros; groups = reverse groups; count = 0 }) blocks)) (sym empty)
-    ∙ told []
-
--- ---- what directives keep of the macros
-
+-- each token of each macro passes the test
 abbrev pub BodiesHold : (Token → Bool) → List Macro → Type 0
 BodiesHold p macros = list_all (λ macro. list_all p macro.body) macros ≡ true
 
--- after the step the macros' tokens still hold p, and the count is the same
-abbrev pub Keeps : (Token → Bool) → ℕ → Result State PreFault → Type 0
-Keeps p count (Ok state) = BodiesHold p state.macros × (state.count ≡ count)
-Keeps p count (Err why) = Unit {0}
+-- the bytes and the tokens stay, and macros' tokens go on passing the test
+pub record Follows (p : Token → Bool) (s s' : State) : Type 0 where
+  pub bytes : s'.definitions.bytes ≡ s.definitions.bytes
+  pub out : s'.out ≡ s.out
+  pub bodies : BodiesHold p s.definitions.macros → BodiesHold p s'.definitions.macros
 
--- what a directive would define holds p
-abbrev command_holds : (Token → Bool) → Command → Bool
-command_holds p (Define tokens) = list_all p tokens
-command_holds p (Include tokens) = true
-command_holds p (Undefine tokens) = true
-command_holds p (If tokens) = true
-command_holds p (IfDefined tokens) = true
-command_holds p (IfUndefined tokens) = true
-command_holds p (ElseIf tokens) = true
-command_holds p (Else tokens) = true
-command_holds p (EndIf tokens) = true
-command_holds p Nothing = true
-command_holds p Pragma = true
-command_holds p Unknown = true
+-- the test, but for a #
+abbrev pub or_mark : List ℕ → (Token → Bool) → Token → Bool
+or_mark bytes p t = p t || is_mark bytes t (codes "#")
 
-cond_holds : (p : Token → Bool) (b : Bool) (x y : Command) → command_holds p x ≡ true → command_holds p y ≡ true → command_holds p (cond b x y) ≡ true
-cond_holds p true x y hx hy = hx
-cond_holds p false x y hx hy = hy
+-- the tokens that a command may define
+abbrev DefinesOnly : (Token → Bool) → Command → Type 0
+DefinesOnly p (Define tokens) = list_all p tokens ≡ true
+DefinesOnly p Nothing = Unit {0}
+DefinesOnly p (Include tokens) = Unit {0}
+DefinesOnly p (Undefine tokens) = Unit {0}
+DefinesOnly p (If tokens) = Unit {0}
+DefinesOnly p (IfDefined tokens) = Unit {0}
+DefinesOnly p (IfUndefined tokens) = Unit {0}
+DefinesOnly p (ElseIf tokens) = Unit {0}
+DefinesOnly p (Else tokens) = Unit {0}
+DefinesOnly p (EndIf tokens) = Unit {0}
+DefinesOnly p Pragma = Unit {0}
+DefinesOnly p Unknown = Unit {0}
 
-command-holds : (p : Token → Bool) (bytes : List ℕ) (tokens : List Token) → list_all p tokens ≡ true → command_holds p (command_of bytes tokens) ≡ true
-command-holds p bytes [] all = refl
-command-holds p bytes (word ∷ tokens) all =
-    let behind = (and_parts (p word) (list_all p tokens) all).1 in
-    cond_holds p (is_word bytes word (codes "include")) _ _ refl
-    (cond_holds p (is_word bytes word (codes "define")) _ _ behind
-    (cond_holds p (is_word bytes word (codes "undef")) _ _ refl
-    (cond_holds p (is_word bytes word (codes "if")) _ _ refl
-    (cond_holds p (is_word bytes word (codes "ifdef")) _ _ refl
-    (cond_holds p (is_word bytes word (codes "ifndef")) _ _ refl
-    (cond_holds p (is_word bytes word (codes "elif")) _ _ refl
-    (cond_holds p (is_word bytes word (codes "else")) _ _ refl
-    (cond_holds p (is_word bytes word (codes "endif")) _ _ refl
-    (cond_holds p (is_word bytes word (codes "pragma")) _ _ refl refl)))))))))
+record DefinesThese (p : Token → Bool) (command : Command) : Type 0 where
+  these : DefinesOnly p command
 
-pub cond_keeps : (p : Token → Bool) (count : ℕ) (b : Bool) (x y : Result State PreFault) → Keeps p count x → Keeps p count y → Keeps p count (cond b x y)
-cond_keeps p count true x y kx ky = kx
-cond_keeps p count false x y kx ky = ky
+or_else : (p : Token → Bool) (b : Bool) (x y : Command) → DefinesOnly p x → DefinesThese p y → DefinesThese p (cond b x y)
+or_else p true x y hx hy = record { these = hx }
+or_else p false x y hx hy = hy
 
-or_hash_keeps : (p : Token → Bool) (count : ℕ) (hash : Option ℕ) (r : Result State PreFault) → Keeps p count r → Keeps p count (or_hash hash r)
-or_hash_keeps p count None r k = k
-or_hash_keeps p count (Some at) (Ok state) k = tt
-or_hash_keeps p count (Some at) (Err why) k = tt
+defines_only : (p : Token → Bool) (bytes : List ℕ) (tokens : List Token) → list_all p tokens ≡ true → DefinesThese p (command_of bytes tokens)
+defines_only p bytes [] h = record { these = tt }
+defines_only p bytes (word ∷ tokens) h =
+    or_else p _ (Include tokens) _ tt (or_else p _ (Define tokens) _ (and_parts (p word) (list_all p tokens) h).1 (or_else p _ (Undefine tokens) _ tt
+    (or_else p _ (If tokens) _ tt (or_else p _ (IfDefined tokens) _ tt (or_else p _ (IfUndefined tokens) _ tt (or_else p _ (ElseIf tokens) _ tt
+    (or_else p _ (Else tokens) _ tt (or_else p _ (EndIf tokens) _ tt (or_else p _ Pragma Unknown tt (record { these = tt }))))))))))
 
-pub defined_again-keeps : (p : Token → Bool) (bytes : List ℕ) (line : ℕ) (state : State) (macro : Macro) (old : Option Macro) → list_all p macro.body ≡ true → BodiesHold p state.macros → Keeps p state.count (defined_again bytes line state macro old)
-defined_again-keeps p bytes line state macro None body all = (rw (body, all) refl, refl)
-defined_again-keeps p bytes line state macro (Some old) body all =
-    cond_keeps p state.count (same_tokens bytes old.body macro.body) (Ok state) (Err (fault.Directive line)) (all, refl) tt
-
-defined_by-keeps : (p : Token → Bool) (bytes : List ℕ) (line : ℕ) (state : State) (tokens : List Token) → list_all p tokens ≡ true → BodiesHold p state.macros → Keeps p state.count (defined_by bytes line state tokens)
-defined_by-keeps p bytes line state [] tokens_hold all = tt
-defined_by-keeps p bytes line state (name ∷ body) tokens_hold all =
-    let macro : Macro = record { name = text_of bytes name; body = body } in
-    let behind = (and_parts (p name) (list_all p body) tokens_hold).1 in
-    cond_keeps p state.count _ (Err (fault.Directive line)) _ tt
-    (or_hash_keeps p state.count (hash_line bytes body) _ (defined_again-keeps p bytes line state macro (macro_of state.macros macro.name) behind all))
-
-all_filter : (p : Macro → Bool) (kept : Macro → Bool) (macros : List Macro) → list_all p macros ≡ true → list_all p (filter kept macros) ≡ true
-all_filter p kept [] all = refl
-all_filter p kept (macro ∷ macros) all =
-    let both = and_parts (p macro) (list_all p macros) all in
-    by_kept (kept macro) refl both.0 (all_filter p kept macros both.1)
+-- tokens without a #
+no_marks : (bytes : List ℕ) (p : Token → Bool) (tokens : List Token) → hash_line bytes tokens ≡ None → list_all (or_mark bytes p) tokens ≡ true → list_all p tokens ≡ true
+no_marks bytes p [] none all = refl
+no_marks bytes p (t ∷ tokens) none all = by (is_mark bytes t (codes "#")) (no_marks bytes p tokens) none (and_parts (or_mark bytes p t) (list_all (or_mark bytes p) tokens) all)
   where
-    by_kept : (b : Bool) → kept macro ≡ b → p macro ≡ true → list_all p (filter kept macros) ≡ true → list_all p (filter kept (macro ∷ macros)) ≡ true
-    by_kept true e here behind = rw (e, here, behind) refl
-    by_kept false e here behind = rw (e, behind) refl
+    or_false : (b : Bool) → (b || false) ≡ true → b ≡ true
+    or_false true h = refl
+    or_false false h = h
 
-undefined_by-keeps : (p : Token → Bool) (bytes : List ℕ) (line : ℕ) (state : State) (name : Option Token) → BodiesHold p state.macros → Keeps p state.count (undefined_by bytes line state name)
-undefined_by-keeps p bytes line state None all = tt
-undefined_by-keeps p bytes line state (Some name) all =
-    (all_filter (λ macro. list_all p macro.body) (λ macro. not (same_text macro.name (text_of bytes name))) state.macros all, refl)
+    by : (b : Bool) → (hash_line bytes tokens ≡ None → list_all (or_mark bytes p) tokens ≡ true → list_all p tokens ≡ true) → cond b (Some t.line) (hash_line bytes tokens) ≡ None → ((p t || b) ≡ true) × (list_all (or_mark bytes p) tokens ≡ true) → (p t && list_all p tokens) ≡ true
+    by true deep e both = cc
+    by false deep e both = rw (or_false (p t) both.0, deep e both.1) refl
 
-opened_if-keeps : (p : Token → Bool) (state : State) (holds : Result Bool PreFault) → BodiesHold p state.macros → Keeps p state.count (opened_if state holds)
-opened_if-keeps p state (Ok holds) all = (all, refl)
-opened_if-keeps p state (Err why) all = tt
+filter_holds : (p : Token → Bool) (test : Macro → Bool) (macros : List Macro) → BodiesHold p macros → BodiesHold p (filter test macros)
+filter_holds p test [] all = refl
+filter_holds p test (m ∷ macros) all =
+    let both = and_parts (list_all p m.body) (list_all (λ macro. list_all p macro.body) macros) all in
+    by (test m) both.0 (filter_holds p test macros both.1)
+  where
+    by : (b : Bool) → list_all p m.body ≡ true → BodiesHold p (filter test macros) → BodiesHold p (cond b (m ∷ filter test macros) (filter test macros))
+    by true one deep = rw (one, deep) refl
+    by false one deep = deep
 
-opened_by_name-keeps : (p : Token → Bool) (bytes : List ℕ) (line : ℕ) (state : State) (wanted : Bool) (name : Option Token) → BodiesHold p state.macros → Keeps p state.count (opened_by_name bytes line state wanted name)
-opened_by_name-keeps p bytes line state wanted None all = tt
-opened_by_name-keeps p bytes line state wanted (Some name) all = (all, refl)
+module _ (p : Token → Bool) (s : State) where
+  same_state : Follows p s s
+  same_state = record { bytes = refl; out = refl; bodies = λ h. h }
 
-turned-keeps : (p : Token → Bool) (state : State) (group : Group) (groups : List Group) (holds : Result Bool PreFault) → BodiesHold p state.macros → Keeps p state.count (turned state group groups holds)
-turned-keeps p state group groups (Ok holds) all = (all, refl)
-turned-keeps p state group groups (Err why) all = tt
+  same_macros : (groups : List Group) → Follows p s (with_groups s groups)
+  same_macros groups = record { bytes = refl; out = refl; bodies = λ h. h }
 
-else_if-keeps : (p : Token → Bool) (bytes : List ℕ) (line : ℕ) (state : State) (tokens : List Token) (groups : List Group) → BodiesHold p state.macros → Keeps p state.count (else_if bytes line state tokens groups)
-else_if-keeps p bytes line state tokens [] all = (all, refl)
-else_if-keeps p bytes line state tokens (group ∷ groups) all =
-    cond_keeps p state.count (not group.stands_active) (Ok state) _ (all, refl)
-    (cond_keeps p state.count group.had (Ok (in_group state group groups false)) _ (all, refl) (turned-keeps p state group groups (condition_of bytes state.macros line tokens) all))
+  define_follows : (line : ℕ) (tokens : List Token) → list_all (or_mark s.definitions.bytes p) tokens ≡ true → Keeps (Follows p s) (define line s tokens)
+  define_follows line [] all = tt
+  define_follows line (name ∷ body) all =
+      let bytes = s.definitions.bytes in
+      let macro : Macro = record { name = text_of bytes name; body = body } in
+      keeps_cond (Follows p s) (not (is_name name) || has_parameters bytes name body) (Err (fault.Directive line)) _ (λ _. tt)
+      (λ _. by_hash (hash_line bytes body) refl (macro_of s.definitions.macros macro.name) (and_parts (or_mark bytes p name) (list_all (or_mark bytes p) body) all).1)
+    where
+      again : (o : Option Macro) → list_all p body ≡ true → Keeps (Follows p s) (defined_again line s (record { name = text_of s.definitions.bytes name; body = body }) o)
+      again None one = record { bytes = refl; out = refl; bodies = λ h. rw (one, h) refl }
+      again (Some old) one = keeps_cond (Follows p s) (same_tokens s.definitions.bytes old.body body) (Ok s) (Err (fault.Directive line)) (λ _. same_state) (λ _. tt)
 
-else_of-keeps : (p : Token → Bool) (line : ℕ) (state : State) (tokens : List Token) (groups : List Group) → BodiesHold p state.macros → Keeps p state.count (else_of line state tokens groups)
-else_of-keeps p line state tokens [] all = (all, refl)
-else_of-keeps p line state tokens (group ∷ groups) all =
-    cond_keeps p state.count (not group.stands_active) (Ok state) _ (all, refl)
-    (cond_keeps p state.count (is_nothing tokens) (Ok (in_group state group groups (not group.had))) (Err (fault.Directive line)) (all, refl) tt)
+      by_hash : (h : Option ℕ) → hash_line s.definitions.bytes body ≡ h → (o : Option Macro) → list_all (or_mark s.definitions.bytes p) body ≡ true → Keeps (Follows p s) (and_then (defined_again line s (record { name = text_of s.definitions.bytes name; body = body }) o) (no_hash h))
+      by_hash None e o body_holds =
+          let holds = again o (no_marks s.definitions.bytes p body e body_holds) in
+          keeps_then (Follows p s) (defined_again line s (record { name = text_of s.definitions.bytes name; body = body }) o) (no_hash None) (λ after is. kept (Follows p s) _ after holds is)
+      by_hash (Some at) e o body_holds = keeps_then (Follows p s) (defined_again line s (record { name = text_of s.definitions.bytes name; body = body }) o) (no_hash (Some at)) (λ after is. tt)
 
-end_of-keeps : (p : Token → Bool) (line : ℕ) (state : State) (tokens : List Token) (groups : List Group) → BodiesHold p state.macros → Keeps p state.count (end_of line state tokens groups)
-end_of-keeps p line state tokens [] all = (all, refl)
-end_of-keeps p line state tokens (group ∷ groups) all =
-    cond_keeps p state.count (group.stands_active && not (is_nothing tokens)) (Err (fault.Directive line)) (Ok (record state { groups = groups })) tt (all, refl)
+  else_if_follows : (line : ℕ) (tokens : List Token) (groups : List Group) → Keeps (Follows p s) (else_if line s tokens groups)
+  else_if_follows line tokens [] = same_state
+  else_if_follows line tokens (Waiting ∷ groups) = keeps_then (Follows p s) (condition_of s.definitions line tokens) _ (λ holds is. same_macros (group_if holds ∷ groups))
+  else_if_follows line tokens (Outside ∷ groups) = same_macros (Outside ∷ groups)
+  else_if_follows line tokens (Active ∷ groups) = same_macros (Past ∷ groups)
+  else_if_follows line tokens (Past ∷ groups) = same_macros (Past ∷ groups)
 
-pub carried_out-keeps : (p : Token → Bool) (bytes : List ℕ) (line : ℕ) (state : State) (command : Command) → command_holds p command ≡ true → BodiesHold p state.macros → Keeps p state.count (carried_out bytes line state command)
-carried_out-keeps p bytes line state Nothing h all = (all, refl)
-carried_out-keeps p bytes line state (Include tokens) h all = tt
-carried_out-keeps p bytes line state (Define tokens) h all = defined_by-keeps p bytes line state tokens h all
-carried_out-keeps p bytes line state (Undefine tokens) h all = undefined_by-keeps p bytes line state (only_name tokens) all
-carried_out-keeps p bytes line state (If tokens) h all = opened_if-keeps p state (condition_of bytes state.macros line tokens) all
-carried_out-keeps p bytes line state (IfDefined tokens) h all = opened_by_name-keeps p bytes line state true (only_name tokens) all
-carried_out-keeps p bytes line state (IfUndefined tokens) h all = opened_by_name-keeps p bytes line state false (only_name tokens) all
-carried_out-keeps p bytes line state (ElseIf tokens) h all = else_if-keeps p bytes line state tokens state.groups all
-carried_out-keeps p bytes line state (Else tokens) h all = else_of-keeps p line state tokens state.groups all
-carried_out-keeps p bytes line state (EndIf tokens) h all = end_of-keeps p line state tokens state.groups all
-carried_out-keeps p bytes line state Pragma h all = (all, refl)
-carried_out-keeps p bytes line state Unknown h all = tt
+  else_of_follows : (line : ℕ) (tokens : List Token) (groups : List Group) → Keeps (Follows p s) (else_of line s tokens groups)
+  else_of_follows line tokens [] = same_state
+  else_of_follows line tokens (group ∷ groups) = keeps_then (Follows p s) (bare line group tokens) _ (λ g is. same_macros (after_group g ∷ groups))
 
-pub passed_over-keeps : (p : Token → Bool) (bytes : List ℕ) (line : ℕ) (state : State) (command : Command) → BodiesHold p state.macros → Keeps p state.count (passed_over bytes line state command)
-passed_over-keeps p bytes line state (If tokens) all = (all, refl)
-passed_over-keeps p bytes line state (IfDefined tokens) all = (all, refl)
-passed_over-keeps p bytes line state (IfUndefined tokens) all = (all, refl)
-passed_over-keeps p bytes line state (ElseIf tokens) all = else_if-keeps p bytes line state tokens state.groups all
-passed_over-keeps p bytes line state (Else tokens) all = else_of-keeps p line state tokens state.groups all
-passed_over-keeps p bytes line state (EndIf tokens) all = end_of-keeps p line state tokens state.groups all
-passed_over-keeps p bytes line state Nothing all = (all, refl)
-passed_over-keeps p bytes line state (Include tokens) all = (all, refl)
-passed_over-keeps p bytes line state (Define tokens) all = (all, refl)
-passed_over-keeps p bytes line state (Undefine tokens) all = (all, refl)
-passed_over-keeps p bytes line state Pragma all = (all, refl)
-passed_over-keeps p bytes line state Unknown all = (all, refl)
+  end_if_follows : (line : ℕ) (tokens : List Token) (groups : List Group) → Keeps (Follows p s) (end_if line s tokens groups)
+  end_if_follows line tokens [] = same_state
+  end_if_follows line tokens (group ∷ groups) = keeps_then (Follows p s) (bare line group tokens) _ (λ g is. same_macros groups)
 
-after_directive-keeps : (p : Token → Bool) (bytes : List ℕ) (line : ℕ) (state : State) (tokens : List Token) → list_all p tokens ≡ true → BodiesHold p state.macros → Keeps p state.count (after_directive bytes line state (command_of bytes tokens))
-after_directive-keeps p bytes line state tokens tokens_hold all =
-    cond_keeps p state.count (is_active state.groups) _ _
-    (carried_out-keeps p bytes line state (command_of bytes tokens) (command-holds p bytes tokens tokens_hold) all)
-    (passed_over-keeps p bytes line state (command_of bytes tokens) all)
+  carry_out_follows : (line : ℕ) (command : Command) → DefinesOnly (or_mark s.definitions.bytes p) command → Keeps (Follows p s) (carry_out line s command)
+  carry_out_follows line Nothing h = same_state
+  carry_out_follows line (Include tokens) h = tt
+  carry_out_follows line (Define tokens) h = define_follows line tokens h
+  carry_out_follows line (Undefine tokens) h =
+      keeps_then (Follows p s) (or_directive line (only_name tokens)) _ (λ name is. record { bytes = refl; out = refl; bodies = filter_holds p _ s.definitions.macros })
+  carry_out_follows line (If tokens) h = keeps_then (Follows p s) (condition_of s.definitions line tokens) _ (λ holds is. same_macros (group_if holds ∷ s.groups))
+  carry_out_follows line (IfDefined tokens) h = keeps_then (Follows p s) (or_directive line (only_name tokens)) _ (λ name is. same_macros _)
+  carry_out_follows line (IfUndefined tokens) h = keeps_then (Follows p s) (or_directive line (only_name tokens)) _ (λ name is. same_macros _)
+  carry_out_follows line (ElseIf tokens) h = else_if_follows line tokens s.groups
+  carry_out_follows line (Else tokens) h = else_of_follows line tokens s.groups
+  carry_out_follows line (EndIf tokens) h = end_if_follows line tokens s.groups
+  carry_out_follows line Pragma h = same_state
+  carry_out_follows line Unknown h = tt
 
-pub directive_keeps : (p : Token → Bool) (bytes : List ℕ) (line : ℕ) (state after : State) (tokens : List Token) → list_all p tokens ≡ true → BodiesHold p state.macros → after_directive bytes line state (command_of bytes tokens) ≡ Ok after → BodiesHold p after.macros × (after.count ≡ state.count)
-directive_keeps p bytes line state after tokens tokens_hold all e =
-    subst (Keeps p state.count) e (after_directive-keeps p bytes line state tokens tokens_hold all)
+  pass_over_follows : (line : ℕ) (command : Command) → Keeps (Follows p s) (pass_over line s command)
+  pass_over_follows line (If tokens) = same_macros _
+  pass_over_follows line (IfDefined tokens) = same_macros _
+  pass_over_follows line (IfUndefined tokens) = same_macros _
+  pass_over_follows line (ElseIf tokens) = else_if_follows line tokens s.groups
+  pass_over_follows line (Else tokens) = else_of_follows line tokens s.groups
+  pass_over_follows line (EndIf tokens) = end_if_follows line tokens s.groups
+  pass_over_follows line Nothing = same_state
+  pass_over_follows line (Include tokens) = same_state
+  pass_over_follows line (Define tokens) = same_state
+  pass_over_follows line (Undefine tokens) = same_state
+  pass_over_follows line Pragma = same_state
+  pass_over_follows line Unknown = same_state
 
--- the macro that is there at the beginning
-pub filc_within : (bytes texts : List ℕ) (macros : List Macro) → texts ≡ bytes_with_one bytes → macros ≡ filc_macro bytes ∷ [] → macros_within (length texts) macros ≡ true
-filc_within bytes texts macros is first =
-    let size : length texts ≡ length bytes + 1 = ap length is ∙ length-append bytes (codes "1") in
-    let starts = le-leb (length bytes) (length bytes + 1) (omega arith) in
-    let ends = le-leb (length bytes + 1) (length texts) (omega arith) in
-    ap (macros_within (length texts)) first ∙ rw (starts, ends) refl
+  pub directive_follows : (line : ℕ) (tokens : List Token) → list_all (or_mark s.definitions.bytes p) tokens ≡ true → Keeps (Follows p s) (after_directive line s (command_of s.definitions.bytes tokens))
+  directive_follows line tokens all =
+      let command = command_of s.definitions.bytes tokens in
+      keeps_cond (Follows p s) (is_active s.groups) (carry_out line s command) (pass_over line s command)
+      (λ _. carry_out_follows line command (defines_only (or_mark s.definitions.bytes p) s.definitions.bytes tokens all).these) (λ _. pass_over_follows line command)
+
+-- ---- the bytes
+
+pub any_token : (tokens : List Token) → list_all (λ t. true) tokens ≡ true
+any_token [] = refl
+any_token (t ∷ tokens) = any_token tokens
+
+pub directive_bytes : (line : ℕ) (s s' : State) (tokens : List Token) → after_directive line s (command_of s.definitions.bytes tokens) ≡ Ok s' → s'.definitions.bytes ≡ s.definitions.bytes
+directive_bytes line s s' tokens e = (kept (Follows (λ t. true) s) _ s' (directive_follows (λ t. true) s line tokens (any_token tokens)) e).bytes
+
+pub token_bytes : (s s' : State) (t : Token) → after_token s t ≡ Ok s' → s'.definitions.bytes ≡ s.definitions.bytes
+token_bytes s s' t e =
+    let P : State → Type 0 = λ after. after.definitions.bytes ≡ s.definitions.bytes in
+    kept P _ s'
+    (keeps_cond P (not (is_active s.groups) && not (same_kind t.kind End)) (Ok s) _ (λ _. refl)
+    (λ _. keeps_cond P (is_mark s.definitions.bytes t (codes "#")) (Err (fault.Directive t.line)) _ (λ _. tt)
+    (λ _. keeps_then P (with_expansion s.definitions t s.out) _ (λ out is. refl)))) e
+
+-- ---- a loop's step, with the bytes as the code has them
+
+module _ (bytes seen_bytes : List ℕ) (s s' : State) (rest ahead : List Token) (t : Token) (whole : Result State PreFault) (same : s.definitions.bytes ≡ bytes) (seen_is : seen_bytes ≡ s.definitions.bytes) (is : rest ≡ t ∷ ahead) (told : after_blocks s (blocks_of bytes 0 rest) ≡ whole) where
+  at_bytes : (blocks left : List Block) → blocks_of seen_bytes 0 (t ∷ ahead) ≡ blocks → blocks ≡ left → blocks_of bytes 0 (t ∷ ahead) ≡ left
+  at_bytes blocks left front e = ap (λ bs. blocks_of bs 0 (t ∷ ahead)) (sym same ∙ sym seen_is) ∙ front ∙ e
+
+  pub token_step : blocks_of seen_bytes 0 (t ∷ ahead) ≡ Plain t ∷ blocks_of seen_bytes 0 ahead → after_token s t ≡ Ok s' → after_blocks s' (blocks_of bytes 0 ahead) ≡ whole
+  token_step front goes =
+      on_block bytes s s' (Plain t) rest ahead ahead t whole is (at_bytes _ _ front (ap (λ bs. Plain t ∷ blocks_of bs 0 ahead) (seen_is ∙ same))) goes told
+
+  pub token_fault : (why : PreFault) → blocks_of seen_bytes 0 (t ∷ ahead) ≡ Plain t ∷ blocks_of seen_bytes 0 ahead → after_token s t ≡ Err why → whole ≡ Err why
+  token_fault why front fails =
+      on_block_fault bytes s (Plain t) rest ahead ahead t why whole is (at_bytes _ _ front (ap (λ bs. Plain t ∷ blocks_of bs 0 ahead) (seen_is ∙ same))) fails told
+
+  module _ (line left : List Token) (count : ℕ) (front : blocks_of seen_bytes 0 (t ∷ ahead) ≡ Directive t (take count ahead) ∷ blocks_of seen_bytes 0 (drop count ahead)) (lines : line ≡ take count ahead) (lefts : left ≡ drop count ahead) where
+    front_is : blocks_of bytes 0 (t ∷ ahead) ≡ Directive t line ∷ blocks_of bytes 0 left
+    front_is = at_bytes _ _ front (ap (λ bs. Directive t (take count ahead) ∷ blocks_of bs 0 (drop count ahead)) (seen_is ∙ same) ∙ ap (λ ts. Directive t ts ∷ blocks_of bytes 0 (drop count ahead)) (sym lines) ∙ ap (λ ts. Directive t line ∷ blocks_of bytes 0 ts) (sym lefts))
+
+    pub directive_step : after_directive t.line s (command_of s.definitions.bytes line) ≡ Ok s' → after_blocks s' (blocks_of bytes 0 left) ≡ whole
+    directive_step goes = on_block bytes s s' (Directive t line) rest ahead left t whole is front_is goes told
+
+    pub directive_fault : (why : PreFault) → after_directive t.line s (command_of s.definitions.bytes line) ≡ Err why → whole ≡ Err why
+    directive_fault why fails = on_block_fault bytes s (Directive t line) rest ahead left t why whole is front_is fails told

@@ -1,7 +1,6 @@
 -- The table of macros: what a definition and its end change, and what a look-up finds.
 use Rattle.std.proofs.Common.{◌&&◌, ◌≡◌, ◌≢◌, ℕ, zero, suc, ◌+◌, ◌-◌, ◌<◌, ◌≤◌, cond, not, ◌==◌, Bool, true, false, IsTrue, List, [], ◌∷◌, ◌++◌, length, map, filter, get_or, Option, Some, None, is_some, IsSomeAnd, Result, Ok, Err, IfOk, OnErr, refl, sym, ap, ◌∙◌, subst, ⊎_elim, arith, eq-eqb, Vec, length-append}
 use Rattle.std.specs.declared.alloc.Global.{Global}
-use Rattle.std.specs.declared.alloc.AllocError.{AllocError}
 use Rattle.std.specs.Option.{option_map}
 use Rattle.std.specs.BTreeMap as tree
 use Rattle.std.specs.BTreeMap.{is_at}
@@ -10,22 +9,21 @@ use Rattle.std.specs.Cmp.Lexicographic.{slice_cmp, nat_list_cmp_total}
 use Rattle.std.specs.Ordering.{nat_cmp, is_eq}
 use Rattle.std.specs.Map.{lookup, IsKeyTest, AreApart, KeepsOthers}
 use Rattle.std.specs.Str.{bytes_eq}
-use Rattle.std.specs.List.{list_all, slice_get}
+use Rattle.std.specs.List.{slice_get}
 use Rattle.std.proofs.lemmas.Bool.{false≢true, cases_Bool, and_parts}
 use Rattle.std.proofs.lemmas.Bool.Decides.{nat_tests}
 use Rattle.std.proofs.lemmas.Map.Text.{is_eq-slice_cmp}
 use Rattle.std.proofs.lemmas.Option.{slice_get_within, slice_get_read}
 use Rattle.std.proofs.lemmas.Slice.Eq.{bytes_eq-Decides}
-use Rattle.c_lexer.specs.List.{all_within}
 use Rattle.c_lexer.specs.declared.token.Token.{Token}
 use Rattle.c_preproc.specs.declared.macros.Entry.{Entry}
 use Rattle.c_preproc.specs.Texts.{same_text}
-use Rattle.c_preproc.specs.declared.expand.Fit.{Fit}
-use Rattle.c_preproc.specs.Macros.{Macro, macro_of, placed_at, expansion_of_token}
-use Rattle.c_preproc.specs.Within.{macros_within}
-use Rattle.c_preproc.specs.Table.{Index, place_of, macro_of_entry, is_place, defined_from, defined_of, IsIndexed, IsTable, IsBounded, body_of, body_at}
-use Rattle.c_preproc.specs.Walk.{Setting, walk, put_out, IsExpansion}
-use Rattle.c_preproc.proofs.ExpandMeaning.{Knows, Hides, walk_meaning, same_text_then, then_same_text}
+use Rattle.c_preproc.specs.Macros.{Macro, macro_of, without}
+use Rattle.c_preproc.specs.declared.expander.Expander.{Expander}
+use Rattle.c_preproc.specs.declared.expander.Kept.{Kept}
+use Rattle.c_preproc.specs.Table.{Index, place_of, macro_of_entry, is_place, defined_from, defined_of, IsIndexed, body_of, body_at}
+use Rattle.c_preproc.specs.Expander.{Setting, IsStore, LeavesOut, macros_of, but_for}
+use Rattle.c_preproc.proofs.LeftOut.{leads_below, same_text_then, then_same_text, not_same}
 
 -- ---- the index, by names
 
@@ -53,18 +51,6 @@ changed_by old new name w h = record {
 }
 
 -- ---- one entry
-
-same_flip : (a b : List ℕ) → same_text a b ≡ same_text b a
-same_flip a b = by (same_text a b) refl (same_text b a) refl
-  where
-    by : (x : Bool) → same_text a b ≡ x → (y : Bool) → same_text b a ≡ y → x ≡ y
-    by true e true f = refl
-    by false e false f = refl
-    by true e false f = sym (then_same_text b a (sym (same_text_then a b e))) ∙ f
-    by false e true f = sym e ∙ then_same_text a b (sym (same_text_then b a f))
-
-not_same : (a b : List ℕ) → same_text a b ≡ false → a ≢ b
-not_same a b h e = false≢true (sym h ∙ then_same_text a b e)
 
 is_place_later : (o : Option ℕ) (place : ℕ) → ((p : ℕ) → o ≡ Some p → p < place) → (k : ℕ) → place ≤ k → is_place o k ≡ false
 is_place_later None place h k past = refl
@@ -200,87 +186,16 @@ then_absent places entries indexed name h = by (places name) refl
         let found = present_then places entries indexed name place at.0 e at.1 at.2 in
         cc
 
-pub knows_table : (bytes : List ℕ) (places : List ℕ → Option ℕ) (entries : List Entry) → IsIndexed places entries → Knows (record { bytes = bytes; places = places; entries = entries }) (defined_of places entries)
-knows_table bytes places entries indexed = record {
-  absent = λ name h. absent_then places entries name h;
-  present = λ name place h.
-      let at = entry_at places entries indexed name place h in
-      let found = present_then places entries indexed name place at.0 h at.1 at.2 in
-      let body : at.0.body.items ≡ body_at entries place = ap body_of (sym at.1) in
-      subst (λ o. IsSomeAnd o (λ macro. macro.body ≡ body_at entries place)) (sym found) body;
-  apart = λ name other place h g.
-      let a = entry_at places entries indexed name place h in
-      let b = entry_at places entries indexed other place g in
-      let same : a.0 ≡ b.0 = cc (a.1, b.1) in
-      sym a.2 ∙ ap (λ e. e.name.items) same ∙ b.2;
-}
-
--- what holds of each macro holds of the one that is found
-list_all-find : (test : Macro → Bool) (macros : List Macro) (name : List ℕ) (m : Macro) → list_all test macros ≡ true → macro_of macros name ≡ Some m → test m ≡ true
-list_all-find test [] name m all found = cc
-list_all-find test (x ∷ macros) name m all found = by (list_all-find test macros name m) (same_text x.name name) refl
+-- nothing is left out of all the macros
+pub leaves_nothing_out : (s : Setting) → IsIndexed s.places s.entries → LeavesOut s [] (macros_of s)
+leaves_nothing_out s indexed = record { same = λ name. by name (s.places name) refl }
   where
-    by : (list_all test macros ≡ true → macro_of macros name ≡ Some m → test m ≡ true) → (b : Bool) → same_text x.name name ≡ b → test m ≡ true
-    by deep true s =
-        let here : Some x ≡ Some m = ap (λ b. cond b (Some x) (macro_of macros name)) (sym s) ∙ found in
-        let same : x ≡ m = cc in
-        ap test (sym same) ∙ (and_parts (test x) (list_all test macros) all).0
-    by deep false s =
-        deep (and_parts (test x) (list_all test macros) all).1 (ap (λ b. cond b (Some x) (macro_of macros name)) (sym s) ∙ found)
-
-pub bounded_table : (size : ℕ) (places : List ℕ → Option ℕ) (entries : List Entry) → IsIndexed places entries → IsTrue (macros_within size (defined_of places entries)) → IsBounded size places entries
-bounded_table size places entries indexed within name place leads =
-    let at = entry_at places entries indexed name place leads in
-    let found = present_then places entries indexed name place at.0 leads at.1 at.2 in
-    let body : at.0.body.items ≡ body_at entries place = ap body_of (sym at.1) in
-    subst (λ body. IsTrue (all_within size body)) body (list_all-find (λ macro. all_within size macro.body) (defined_of places entries) name (macro_of_entry at.0) within found)
-
--- ---- how many
-
-live : (List ℕ → Option ℕ) → ℕ → List Entry → ℕ
-live places k [] = 0
-live places k (x ∷ es) = cond (is_place (places x.name.items) k) 1 0 + live places (suc k) es
-
-length-defined : (places : List ℕ → Option ℕ) (es : List Entry) (k : ℕ) (older : List Macro) → length (defined_from places k es older) ≡ live places k es + length older
-unfolding defined_from live
-length-defined places [] k older = omega arith
-length-defined places (x ∷ es) k older = by (is_place (places x.name.items) k) refl (length-defined places es (suc k))
-  where
-    by : (b : Bool) → is_place (places x.name.items) k ≡ b → ((older : List Macro) → length (defined_from places (suc k) es older) ≡ live places (suc k) es + length older) → length (defined_from places (suc k) es (cond (is_place (places x.name.items) k) (macro_of_entry x ∷ older) older)) ≡ cond (is_place (places x.name.items) k) 1 0 + live places (suc k) es + length older
-    by true e deep = rw e (omega (arith, deep (macro_of_entry x ∷ older)))
-    by false e deep = rw e (omega (arith, deep older))
-
-module _ (places new : List ℕ → Option ℕ) (name : List ℕ) (changes : Changes places new name None) where
-  same_entry : (x : Entry) (k : ℕ) → is_place (places name) k ≡ false → is_place (new x.name.items) k ≡ is_place (places x.name.items) k
-  same_entry x k none = by (same_text name x.name.items) refl
-    where
-      by : (b : Bool) → same_text name x.name.items ≡ b → is_place (new x.name.items) k ≡ is_place (places x.name.items) k
-      by true s =
-          let same = same_text_then name x.name.items s in
-          ap (λ t. is_place (new t) k) (sym same) ∙ ap (λ o. is_place o k) changes.here ∙ sym none ∙ ap (λ t. is_place (places t) k) same
-      by false s = ap (λ o. is_place o k) (changes.others x.name.items (not_same _ _ s))
-
-  live_past : (es : List Entry) (k : ℕ) → ((p : ℕ) → k ≤ p → is_place (places name) p ≡ false) → live new k es ≡ live places k es
-  unfolding live
-  live_past [] k none = refl
-  live_past (x ∷ es) k none =
-      ap (λ b. cond b 1 0 + live new (suc k) es) (same_entry x k (none k (omega arith)))
-      ∙ ap (λ n. cond (is_place (places x.name.items) k) 1 0 + n) (live_past es (suc k) (λ p h. none p (omega arith)))
-
-  live_there : (es : List Entry) (k j : ℕ) (e : Entry) → places name ≡ Some (k + j) → slice_get es j ≡ Some e → e.name.items ≡ name → suc (live new k es) ≡ live places k es
-  unfolding live
-  live_there [] k j e leads at same = cc
-  live_there (x ∷ es) k zero e leads at same =
-      let here : x ≡ e = cc in
-      let named : x.name.items ≡ name = ap (λ y. y.name.items) here ∙ same in
-      let was : is_place (places x.name.items) k ≡ true = is_place_at (places x.name.items) k (ap places named ∙ leads ∙ ap Some (omega arith)) in
-      let gone : is_place (new x.name.items) k ≡ false = ap (λ t. is_place (new t) k) named ∙ ap (λ o. is_place o k) changes.here in
-      let rest = live_past es (suc k) (λ p h. is_place_apart (places name) (k + zero) p leads (λ g. omega arith)) in
-      rw (was, gone) (omega (arith, rest))
-  live_there (x ∷ es) k (suc j) e leads at same =
-      let deep = live_there es (suc k) j e (leads ∙ ap Some (omega arith)) at same in
-      let one = same_entry x k (is_place_apart (places name) (k + suc j) k leads (λ g. omega arith)) in
-      rw one (omega (arith, deep))
+    by : (name : List ℕ) (o : Option ℕ) → s.places name ≡ o → option_map (λ macro. macro.body) (macro_of (macros_of s) name) ≡ option_map (body_at s.entries) (but_for [] o)
+    by name None e = ap (option_map (λ macro. macro.body)) (absent_then s.places s.entries name e)
+    by name (Some place) e =
+        let at = entry_at s.places s.entries indexed name place e in
+        ap (option_map (λ macro. macro.body)) (present_then s.places s.entries indexed name place at.0 e at.1 at.2)
+        ∙ ap (λ o. Some (body_of o)) (sym at.1)
 
 -- ---- the table between calls
 
@@ -311,82 +226,29 @@ indexed-garbage places entries e indexed name place leads =
     let at = entry_at places entries indexed name place leads in
     subst (λ o. IsSomeAnd o (λ x. x.name.items ≡ name)) (sym (slice_get_before entries (e ∷ []) place at.0 at.1)) at.2
 
-leads_within : (places : List ℕ → Option ℕ) (entries : List Entry) → IsIndexed places entries → (name : List ℕ) (p : ℕ) → places name ≡ Some p → p < length entries
-leads_within places entries indexed name p leads =
-    let at = entry_at places entries indexed name p leads in
-    slice_get_within entries p at.0 at.1
-
-live-le : (places : List ℕ → Option ℕ) (es : List Entry) (k : ℕ) → live places k es ≤ length es
-unfolding live
-live-le places [] k = omega arith
-live-le places (x ∷ es) k = by (is_place (places x.name.items) k) (live-le places es (suc k))
-  where
-    by : (b : Bool) → live places (suc k) es ≤ length es → cond b 1 0 + live places (suc k) es ≤ length (x ∷ es)
-    by true h = omega arith
-    by false h = omega arith
-
-module _ (places : List ℕ → Option ℕ) (entries : List Entry) (count : ℕ) (seats spots : List ℕ) (table : IsTable places entries count seats spots) where
+module _ (places : List ℕ → Option ℕ) (entries : List Entry) (indexed : IsIndexed places entries) where
   module _ (new : List ℕ → Option ℕ) (e : Entry) (changes : Changes places new e.name.items (Some (length entries))) (undefined : macro_of (defined_of places entries) e.name.items ≡ None) where
     pub defined_more : defined_of new (entries ++ e ∷ []) ≡ macro_of_entry e ∷ defined_of places entries
-    defined_more = defined-push places new e (length entries) changes (then_absent places entries table.indexed e.name.items undefined) entries 0 [] (omega arith)
-
-    pub table_more : (more_seats more_spots : List ℕ) → length more_seats ≡ length seats + 1 → length more_spots ≡ length spots + 1 → IsTable new (entries ++ e ∷ []) (count + 1) more_seats more_spots
-    table_more more_seats more_spots h g = record {
-      indexed = indexed-push places new entries e table.indexed changes;
-      counted = omega (arith, ap length defined_more, table.counted);
-      seated = omega (arith, table.seated, length-append entries (e ∷ []));
-      spotted = omega (arith, table.spotted, length-append entries (e ∷ []));
-    }
+    defined_more = defined-push places new e (length entries) changes (then_absent places entries indexed e.name.items undefined) entries 0 [] (omega arith)
 
   pub defined_same : (e : Entry) → defined_of places (entries ++ e ∷ []) ≡ defined_of places entries
-  defined_same e = defined-garbage places e (length entries) (leads_within places entries table.indexed e.name.items) entries 0 [] (omega arith)
-
-  pub table_same : (e : Entry) (more_seats more_spots : List ℕ) → length more_seats ≡ length seats + 1 → length more_spots ≡ length spots + 1 → IsTable places (entries ++ e ∷ []) count more_seats more_spots
-  table_same e more_seats more_spots h g = record {
-    indexed = indexed-garbage places entries e table.indexed;
-    counted = table.counted ∙ ap length (sym (defined_same e));
-    seated = omega (arith, table.seated, length-append entries (e ∷ []));
-    spotted = omega (arith, table.spotted, length-append entries (e ∷ []));
-  }
-
-  pub count_fits : count ≤ length entries
-  count_fits = omega (arith, table.counted, length-defined places entries 0 [], live-le places entries 0)
+  defined_same e = defined-garbage places e (length entries) (leads_below places entries indexed e.name.items) entries 0 [] (omega arith)
 
   module _ (new : List ℕ → Option ℕ) (name : List ℕ) (changes : Changes places new name None) where
-    pub defined_less : defined_of new entries ≡ filter (λ macro. not (same_text macro.name name)) (defined_of places entries)
+    pub defined_less : defined_of new entries ≡ without (defined_of places entries) name
     defined_less = ended places new name changes entries 0 []
 
-    indexed_less : IsIndexed new entries
+    pub indexed_less : IsIndexed new entries
     indexed_less other place leads = by (same_text name other) refl
       where
         by : (b : Bool) → same_text name other ≡ b → IsSomeAnd (slice_get entries place) (λ x. x.name.items ≡ other)
         by true s =
             let nothing : None ≡ Some place = sym changes.here ∙ ap new (same_text_then name other s) ∙ leads in
             cc
-        by false s = table.indexed other place (sym (changes.others other (not_same _ _ s)) ∙ leads)
+        by false s = indexed other place (sym (changes.others other (not_same _ _ s)) ∙ leads)
 
-    pub less_one : (place : ℕ) → places name ≡ Some place → length (defined_of new entries) + 1 ≡ count
-    less_one place leads =
-        let at = entry_at places entries table.indexed name place leads in
-        let lives = live_there places new name changes entries 0 place at.0 (leads ∙ ap Some (omega arith)) at.1 at.2 in
-        omega (arith, table.counted, length-defined places entries 0 [], length-defined new entries 0 [], lives)
-
-    pub table_less : (place : ℕ) → places name ≡ Some place → IsTable new entries (count - 1) seats spots
-    table_less place leads = record {
-      indexed = indexed_less;
-      counted = omega (arith, less_one place leads);
-      seated = table.seated;
-      spotted = table.spotted;
-    }
-
-pub first_table : (places : List ℕ → Option ℕ) (entries : List Entry) (seats spots : List ℕ) → entries ≡ [] → ((name : List ℕ) → places name ≡ None) → IsTable places entries 0 seats spots
-unfolding defined_from
-first_table places entries seats spots none nowhere = subst (λ es. IsTable places es 0 seats spots) (sym none) (record {
-  indexed = λ name place h. absurd (nothing (places name) place (nowhere name) h);
-  counted = refl;
-  seated = omega arith;
-  spotted = omega arith;
-})
+pub first_indexed : (places : List ℕ → Option ℕ) (entries : List Entry) → ((name : List ℕ) → places name ≡ None) → IsIndexed places entries
+first_indexed places entries nowhere name place h = absurd (nothing (places name) place (nowhere name) h)
   where
     nothing : (o : Option ℕ) (p : ℕ) → o ≡ None → o ≡ Some p → ⊥
     nothing o p h g = cc
@@ -394,10 +256,6 @@ first_table places entries seats spots none nowhere = subst (λ es. IsTable plac
 pub first_defined : (places : List ℕ → Option ℕ) (entries : List Entry) → entries ≡ [] → defined_of places entries ≡ []
 unfolding defined_from
 first_defined places entries none = ap (defined_of places) none
-
-pub some_of : (o : Option ℕ) → true ≡ is_some o → (p : ℕ) × (o ≡ Some p)
-some_of None h = absurd (false≢true (sym h))
-some_of (Some p) h = (p, refl)
 
 pub nowhere : (index : Index) → index.entries ≡ [] → (name : List ℕ) → place_of index name ≡ None
 nowhere index none name = ap (lookup (is_at (λ key. slice_cmp nat_cmp name key.items))) none
@@ -409,34 +267,6 @@ pub on_err : {T E : Type 0} (r : Result T E) (P : Type 0) → P → OnErr r P
 on_err (Ok x) P p = tt
 on_err (Err e) P p = p
 
--- ---- a definition, as the code makes it
-
-module _ (places : List ℕ → Option ℕ) (entries : List Entry) (count : ℕ) (seats spots : List ℕ) (macros : List Macro) (table : IsTable places entries count seats spots) (view : defined_of places entries ≡ macros) (e : Entry) (name : List ℕ) (named : e.name.items ≡ name) (more_entries : List Entry) (pushed : more_entries ≡ entries ++ e ∷ []) (more_seats more_spots : List ℕ) (seat : length more_seats ≡ length seats + 1) (spot : length more_spots ≡ length spots + 1) where
-  module _ (new : List ℕ → Option ℕ) (key : List ℕ) (keyed : key ≡ name) (place : ℕ) (last : place ≡ length entries) (changes : Changes places new key (Some place)) (absent : macro_of macros name ≡ None) where
-    entry_changes : Changes places new e.name.items (Some (length entries))
-    entry_changes = subst (λ n. Changes places new e.name.items (Some n)) last (subst (λ text. Changes places new text (Some place)) (keyed ∙ sym named) changes)
-
-    entry_absent : macro_of (defined_of places entries) e.name.items ≡ None
-    entry_absent = ap (λ ms. macro_of ms e.name.items) view ∙ ap (macro_of macros) named ∙ absent
-
-    pub made_table : IsTable new more_entries (count + 1) more_seats more_spots
-    made_table = subst (λ es. IsTable new es (count + 1) more_seats more_spots) (sym pushed) (table_more places entries count seats spots table new e entry_changes entry_absent more_seats more_spots seat spot)
-
-    pub made_macro : (body : List Token) → e.body.items ≡ body → defined_of new more_entries ≡ record { name = name; body = body } ∷ macros
-    made_macro body bodied =
-        ap (defined_of new) pushed
-        ∙ defined_more places entries count seats spots table new e entry_changes entry_absent
-        ∙ ap (λ older. macro_of_entry e ∷ older) view
-        ∙ ap (λ text. let m : Macro = record { name = text; body = e.body.items } in m ∷ macros) named
-        ∙ ap (λ tokens. let m : Macro = record { name = name; body = tokens } in m ∷ macros) bodied
-
-  module _ (new : List ℕ → Option ℕ) (same : new ≡ places) where
-    pub unmade_table : IsTable new more_entries count more_seats more_spots
-    unmade_table = subst (λ p. IsTable p more_entries count more_seats more_spots) (sym same) (subst (λ es. IsTable places es count more_seats more_spots) (sym pushed) (table_same places entries count seats spots table e more_seats more_spots seat spot))
-
-    pub unmade_macro : defined_of new more_entries ≡ macros
-    unmade_macro = ap (λ p. defined_of p more_entries) same ∙ ap (defined_of places) pushed ∙ defined_same places entries count seats spots table e ∙ view
-
 -- ---- the body of a name
 
 pub body_absent : (places : List ℕ → Option ℕ) (entries : List Entry) (macros : List Macro) (name : List ℕ) → defined_of places entries ≡ macros → places name ≡ None → option_map (λ macro. macro.body) (macro_of macros name) ≡ None
@@ -446,34 +276,41 @@ body_absent places entries macros name view absent =
 pub body_present : (places : List ℕ → Option ℕ) (entries : List Entry) (macros : List Macro) (name : List ℕ) (place : ℕ) (e : Entry) → defined_of places entries ≡ macros → IsIndexed places entries → places name ≡ Some place → e ≡ get_or entries place e → option_map (λ macro. macro.body) (macro_of macros name) ≡ Some e.body.items
 body_present places entries macros name place e view indexed leads is =
     let at = entry_at places entries indexed name place leads in
-    let there : slice_get entries place ≡ Some e = slice_get_read entries (length entries) place e refl (leads_within places entries indexed name place leads) is in
+    let there : slice_get entries place ≡ Some e = slice_get_read entries (length entries) place e refl (leads_below places entries indexed name place leads) is in
     let same : at.0 ≡ e = cc (at.1, there) in
     ap (λ ms. option_map (λ macro. macro.body) (macro_of ms name)) (sym view)
     ∙ ap (option_map (λ macro. macro.body)) (present_then places entries indexed name place at.0 leads at.1 at.2)
     ∙ ap (λ x. Some x.body.items) same
 
--- ---- the expansion of a token
-
-nothing_hidden : (s : Setting) → Hides s [] []
-nothing_hidden s = record { same = λ name place h. refl }
-
-pub expansion_is : (bytes : List ℕ) (places : List ℕ → Option ℕ) (entries : List Entry) (count : ℕ) (seats spots : List ℕ) (macros : List Macro) (t : Token) → IsTable places entries count seats spots → defined_of places entries ≡ macros → map (placed_at t) (put_out (walk count (record { bytes = bytes; places = places; entries = entries }) [] t)) ≡ expansion_of_token bytes macros t
-expansion_is bytes places entries count seats spots macros t table view =
-    let s : Setting = record { bytes = bytes; places = places; entries = entries } in
-    ap (λ n. map (placed_at t) (put_out (walk n s [] t))) table.counted
-    ∙ sym (walk_meaning s (defined_of places entries) (knows_table bytes places entries table.indexed) (length (defined_of places entries)) [] [] (nothing_hidden s) t)
-    ∙ ap (λ ms. expansion_of_token bytes ms t) view
-
-pub expansion_then : (r : Result Fit AllocError) (room : ℕ) (x y old new : List Token) → x ≡ y → IfOk r (λ fit. IsExpansion fit room x old new) → IfOk r (λ fit. IsExpansion fit room y old new)
-expansion_then r room x y old new same h = subst (λ tokens. IfOk r (λ fit. IsExpansion fit room tokens old new)) same h
-
--- what is kept of the macros is within too
-pub within-filter : (size : ℕ) (kept : Macro → Bool) (macros : List Macro) → IsTrue (macros_within size macros) → IsTrue (macros_within size (filter kept macros))
-within-filter size kept [] h = refl
-within-filter size kept (m ∷ macros) h =
-    let both = and_parts (all_within size m.body) (macros_within size macros) h in
-    by (kept m) both.0 (within-filter size kept macros both.1)
+-- nothing is kept
+pub store_empty : (s : Setting) (x : Expander) → length s.entries ≤ length x.seats.items → length s.entries ≤ length x.spots.items → x.kept.items ≡ [] → IsStore s x
+store_empty s x seats spots none = record {
+  seats = seats;
+  spots = spots;
+  kept = λ index kept there. absurd (nothing index kept (ap (λ ks. slice_get ks index) (sym none) ∙ there));
+}
   where
-    by : (b : Bool) → all_within size m.body ≡ true → IsTrue (macros_within size (filter kept macros)) → IsTrue (macros_within size (cond b (m ∷ filter kept macros) (filter kept macros)))
-    by true first deep = ap (λ x. x && macros_within size (filter kept macros)) first ∙ deep
-    by false first deep = deep
+    nothing : (index : ℕ) (kept : Kept) → slice_get [] index ≡ Some kept → ⊥
+    nothing index kept h = cc
+
+-- ---- a definition, as the code makes it
+
+module _ (places : List ℕ → Option ℕ) (entries more : List Entry) (indexed : IsIndexed places entries) (e : Entry) (pushed : more ≡ entries ++ e ∷ []) where
+  -- the index leads to the new entry
+  module _ (new : List ℕ → Option ℕ) (key : List ℕ) (keyed : key ≡ e.name.items) (place : ℕ) (last : place ≡ length entries) (changes : Changes places new key (Some place)) where
+    entry_changes : Changes places new e.name.items (Some (length entries))
+    entry_changes = subst (λ n. Changes places new e.name.items (Some n)) last (subst (λ text. Changes places new text (Some place)) keyed changes)
+
+    pub made_indexed : IsIndexed new more
+    made_indexed = subst (IsIndexed new) (sym pushed) (indexed-push places new entries e indexed entry_changes)
+
+    pub made_macro : macro_of (defined_of places entries) e.name.items ≡ None → defined_of new more ≡ macro_of_entry e ∷ defined_of places entries
+    made_macro absent = ap (defined_of new) pushed ∙ defined_more places entries indexed new e entry_changes absent
+
+  -- or it doesn't
+  module _ (new : List ℕ → Option ℕ) (same : new ≡ places) where
+    pub unmade_indexed : IsIndexed new more
+    unmade_indexed = subst (λ p. IsIndexed p more) (sym same) (subst (IsIndexed places) (sym pushed) (indexed-garbage places entries e indexed))
+
+    pub unmade_macro : defined_of new more ≡ defined_of places entries
+    unmade_macro = ap (λ p. defined_of p more) same ∙ ap (defined_of places) pushed ∙ defined_same places entries indexed e

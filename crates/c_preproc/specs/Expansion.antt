@@ -2,33 +2,39 @@
 --
 -- Faults come in the order of their lines. An `if` without its end, and a part in the wrong place,
 -- are found by nesting alone, and stand before any other fault of the same or a later line.
-use Rattle.std.specs.Prelude.{codes, ℕ, zero, suc, ◌+◌, Bool, true, false, cond, not, ◌&&◌, ◌||◌, ◌==◌, nat_lt, List, [], ◌∷◌, ◌++◌, length, map, Option, Some, None, is_some, Result, Ok, Err}
-use Rattle.std.specs.List.{filter}
+use Rattle.std.specs.Prelude.{codes, ℕ, zero, suc, ◌+◌, ◌-◌, Bool, true, false, cond, not, ◌&&◌, ◌||◌, ◌==◌, nat_lt, List, [], ◌∷◌, ◌++◌, length, Option, Some, None, is_some, Result, Ok, Err}
 use Rattle.std.specs.Option.{option_map, option_and_then}
 use Rattle.c_lexer.specs.declared.token.Token.{Token}
 use Rattle.c_lexer.specs.declared.token.TokenKind.TheVariants.{Number, End}
-use Rattle.c_preproc.specs.declared.condition.Piece.{Piece}
-use Rattle.c_preproc.specs.declared.condition.Piece.TheVariants.{Known, Word}
 use Rattle.c_preproc.specs.declared.fault.PreFault.{PreFault}
 use Rattle.c_preproc.specs.declared.fault.PreFault.TheVariants as fault
-use Rattle.c_preproc.specs.declared.state.Group.{Group}
-use Rattle.c_preproc.specs.Texts.{text_of, same_text, same_tokens, same_kind, is_name, is_word, is_mark}
+use Rattle.c_preproc.specs.Outcomes.{and_then}
+use Rattle.c_preproc.specs.Texts.{text_of, same_tokens, same_kind, is_name, is_word, is_mark}
 use Rattle.c_preproc.specs.Directives.{Block, Directive, Plain, blocks_of, Command, Nothing, Include, Define, Undefine, If, IfDefined, IfUndefined, ElseIf, Else, EndIf, Pragma, Unknown, command_of}
-use Rattle.c_preproc.specs.Macros.{Macro, macro_of, expansion_of_token}
-use Rattle.c_preproc.specs.Condition.{Item, Operand, item_of_kind, truth_of_items}
+use Rattle.c_preproc.specs.Macros.{Definitions, Macro, macro_of, expansion_of_token, without}
+use Rattle.c_preproc.specs.Condition.{Item, item_of_kind, truth_of_items}
 use Rattle.c_preproc.specs.Groups.{unbalanced_line}
 
-abbrev pub Outcome : Type 0
-Outcome = Result (List Token) PreFault
+-- ---- expansions, one behind another
 
 -- the most tokens of an expanded list, and of the expanded list of one condition
 abbrev pub token_limit : ℕ
 token_limit = 4194304
 
+-- the token's expansion behind a list, if that isn't too long
+abbrev pub with_expansion : Definitions → Token → List Token → Result (List Token) PreFault
+with_expansion d token out =
+    let more = expansion_of_token d.bytes d.macros token in
+    cond (nat_lt token_limit (length out + length more)) (Err (fault.Expanded token.line)) (Ok (out ++ more))
+
+unfoldable pub with_expansions : Definitions → List Token → List Token → Result (List Token) PreFault
+with_expansions d [] out = Ok out
+with_expansions d (token ∷ tokens) out = and_then (with_expansion d token out) (with_expansions d tokens)
+
 -- ---- conditions
 
-abbrev pub is_defined : List ℕ → List Macro → Token → Bool
-is_defined bytes macros name = is_some (macro_of macros (text_of bytes name))
+abbrev pub is_defined : Definitions → Token → Bool
+is_defined d name = is_some (macro_of d.macros (text_of d.bytes name))
 
 -- the name that `defined` asks for, and the number of tokens behind `defined` that do so
 abbrev pub asked : List ℕ → List Token → Option (Token × ℕ)
@@ -39,71 +45,61 @@ asked bytes (a ∷ b ∷ c ∷ rest) =
     cond (is_name a) (Some (a, 1))
     (cond (is_mark bytes a (codes "(") && (is_name b && is_mark bytes c (codes ")"))) (Some (b, 3)) None)
 
+-- the bytes of the expanded tokens: those of the file, and the 1 and the 0 that a `defined` stands for
+abbrev pub with_digits : List ℕ → List ℕ
+with_digits bytes = bytes ++ codes "10"
+
+-- the number that a `defined` stands for: one of the last two bytes
+abbrev pub truth_token : List ℕ → Bool → Token → Token
+truth_token bytes holds token =
+    let start = length bytes - cond holds 2 1 in
+    record token { kind = Number; start = start; end = start + 1 }
+
 -- the tokens of a condition with each `defined` decided, where the next `inside` are part of one; none where one has no name
-unfoldable pub pieces_of : List ℕ → List Macro → ℕ → List Token → Option (List Piece)
-pieces_of bytes macros inside [] = Some []
-pieces_of bytes macros (suc inside) (token ∷ tokens) = pieces_of bytes macros inside tokens
-pieces_of bytes macros zero (token ∷ tokens) =
-    cond (is_word bytes token (codes "defined"))
-    (option_and_then (λ (name, count). option_map (λ pieces. Known (is_defined bytes macros name) token.line ∷ pieces) (pieces_of bytes macros count tokens)) (asked bytes tokens))
-    (option_map (λ pieces. Word token ∷ pieces) (pieces_of bytes macros 0 tokens))
+unfoldable pub decided_of : Definitions → ℕ → List Token → Option (List Token)
+decided_of d inside [] = Some []
+decided_of d (suc inside) (token ∷ tokens) = decided_of d inside tokens
+decided_of d zero (token ∷ tokens) =
+    cond (is_word d.bytes token (codes "defined"))
+    (option_and_then (λ (name, count). option_map (λ behind. truth_token d.bytes (is_defined d name) token ∷ behind) (decided_of d count tokens)) (asked d.bytes tokens))
+    (option_map (λ behind. token ∷ behind) (decided_of d 0 tokens))
 
-abbrev pub piece_expansion : List ℕ → List Macro → Piece → List Piece
-piece_expansion bytes macros (Known b line) = Known b line ∷ []
-piece_expansion bytes macros (Word token) = map Word (expansion_of_token bytes macros token)
-
--- the item of a piece
-abbrev pub item_of : List ℕ → Piece → Option Item
-item_of bytes (Known b line) = Some (Operand (cond b 1 0) false)
-item_of bytes (Word token) = item_of_kind token.kind (text_of bytes token)
-
-abbrev pub items_of : List ℕ → List Piece → Option (List Item)
+-- the items of tokens; none where one is none
+abbrev pub items_of : List ℕ → List Token → Option (List Item)
 items_of bytes [] = Some []
-items_of bytes (piece ∷ pieces) = option_and_then (λ item. option_map (λ items. item ∷ items) (items_of bytes pieces)) (item_of bytes piece)
+items_of bytes (token ∷ tokens) = option_and_then (λ item. option_map (λ items. item ∷ items) (items_of bytes tokens)) (item_of_kind token.kind (text_of bytes token))
 
-abbrev pub line_of_piece : Piece → ℕ
-line_of_piece (Known b line) = line
-line_of_piece (Word token) = token.line
-
--- the expanded pieces, or the line of the piece whose expansion passes the limit
-unfoldable pub expanded_pieces : List ℕ → List Macro → ℕ → List Piece → Result (List Piece) ℕ
-expanded_pieces bytes macros count [] = Ok []
-expanded_pieces bytes macros count (piece ∷ pieces) =
-    let out = piece_expansion bytes macros piece in
-    cond (nat_lt token_limit (count + length out)) (Err (line_of_piece piece))
-    (put out (expanded_pieces bytes macros (count + length out) pieces))
-  where
-    put : List Piece → Result (List Piece) ℕ → Result (List Piece) ℕ
-    put out (Ok behind) = Ok (out ++ behind)
-    put out (Err at) = Err at
-
-abbrev pub or_directive : ℕ → Option Bool → Result Bool PreFault
+abbrev pub or_directive : {A : Type 0} → ℕ → Option A → Result A PreFault
 or_directive line None = Err (fault.Directive line)
-or_directive line (Some holds) = Ok holds
-
-abbrev pub truth_of_expanded : List ℕ → ℕ → Result (List Piece) ℕ → Result Bool PreFault
-truth_of_expanded bytes line (Err at) = Err (fault.Expanded at)
-truth_of_expanded bytes line (Ok pieces) = or_directive line (option_and_then truth_of_items (items_of bytes pieces))
-
-abbrev pub truth_of_pieces : List ℕ → List Macro → ℕ → Option (List Piece) → Result Bool PreFault
-truth_of_pieces bytes macros line None = Err (fault.Directive line)
-truth_of_pieces bytes macros line (Some pieces) = truth_of_expanded bytes line (expanded_pieces bytes macros 0 pieces)
+or_directive line (Some x) = Ok x
 
 -- whether a condition holds
-abbrev pub condition_of : List ℕ → List Macro → ℕ → List Token → Result Bool PreFault
-condition_of bytes macros line tokens = truth_of_pieces bytes macros line (pieces_of bytes macros 0 tokens)
+abbrev pub condition_of : Definitions → ℕ → List Token → Result Bool PreFault
+condition_of d line tokens =
+    and_then (or_directive line (decided_of d 0 tokens)) (λ decided.
+    and_then (with_expansions d decided []) (λ expanded.
+    or_directive line (option_and_then truth_of_items (items_of d.bytes expanded))))
 
 -- ---- one directive after another
 
--- the macros that are defined, the open `if`s, innermost first, and the number of tokens so far
+-- the group that an open `if` is in: it stands in a group that isn't active; no group of it was active so far; it is
+-- the active one; or it comes after that
+pub data Group : Type 0 where
+  Outside : Group
+  Waiting : Group
+  Active : Group
+  Past : Group
+
+-- the definitions, the group that each open `if` is in, innermost first, and the tokens so far
 pub record State : Type 0 where
-  pub macros : List Macro
+  pub definitions : Definitions
   pub groups : List Group
-  pub count : ℕ
+  pub out : List Token
 
 abbrev pub is_active : List Group → Bool
 is_active [] = true
-is_active (group ∷ groups) = group.active
+is_active (Active ∷ groups) = true
+is_active (group ∷ groups) = false
 
 -- exactly one name
 abbrev pub only_name : List Token → Option Token
@@ -121,132 +117,124 @@ abbrev pub has_parameters : List ℕ → Token → List Token → Bool
 has_parameters bytes name [] = false
 has_parameters bytes name (token ∷ tokens) = is_mark bytes token (codes "(") && token.start == name.end
 
-abbrev pub with_macro : State → Macro → State
-with_macro state macro = record state { macros = macro ∷ state.macros }
+abbrev pub with_macros : State → List Macro → State
+with_macros state macros = record state { definitions = record { bytes = state.definitions.bytes; macros = macros } }
+
+abbrev pub with_groups : State → List Group → State
+with_groups state groups = record state { groups = groups }
 
 -- a second definition has the same tokens, and changes nothing
-abbrev pub defined_again : List ℕ → ℕ → State → Macro → Option Macro → Result State PreFault
-defined_again bytes line state macro None = Ok (with_macro state macro)
-defined_again bytes line state macro (Some old) = cond (same_tokens bytes old.body macro.body) (Ok state) (Err (fault.Directive line))
+abbrev pub defined_again : ℕ → State → Macro → Option Macro → Result State PreFault
+defined_again line state macro None = Ok (with_macros state (macro ∷ state.definitions.macros))
+defined_again line state macro (Some old) = cond (same_tokens state.definitions.bytes old.body macro.body) (Ok state) (Err (fault.Directive line))
 
-abbrev pub or_hash : Option ℕ → Result State PreFault → Result State PreFault
-or_hash None outcome = outcome
-or_hash (Some at) (Ok state) = Err (fault.Directive at)
-or_hash (Some at) (Err fault) = Err fault
+abbrev pub no_hash : Option ℕ → State → Result State PreFault
+no_hash None state = Ok state
+no_hash (Some at) state = Err (fault.Directive at)
 
-abbrev pub defined_by : List ℕ → ℕ → State → List Token → Result State PreFault
-defined_by bytes line state [] = Err (fault.Directive line)
-defined_by bytes line state (name ∷ body) =
+abbrev pub define : ℕ → State → List Token → Result State PreFault
+define line state [] = Err (fault.Directive line)
+define line state (name ∷ body) =
+    let bytes = state.definitions.bytes in
     let macro : Macro = record { name = text_of bytes name; body = body } in
     cond (not (is_name name) || has_parameters bytes name body) (Err (fault.Directive line))
-    (or_hash (hash_line bytes body) (defined_again bytes line state macro (macro_of state.macros macro.name)))
+    (and_then (defined_again line state macro (macro_of state.definitions.macros macro.name)) (no_hash (hash_line bytes body)))
 
-abbrev pub undefined_by : List ℕ → ℕ → State → Option Token → Result State PreFault
-undefined_by bytes line state None = Err (fault.Directive line)
-undefined_by bytes line state (Some name) = Ok (record state { macros = filter (λ macro. not (same_text macro.name (text_of bytes name))) state.macros })
+abbrev pub undefine : State → Token → State
+undefine state name = with_macros state (without state.definitions.macros (text_of state.definitions.bytes name))
 
-abbrev pub opened : State → Bool → Bool → State
-opened state stands holds = record state { groups = record { stands_active = stands; active = holds; had = holds } ∷ state.groups }
+-- the group that a condition chooses
+abbrev pub group_if : Bool → Group
+group_if holds = cond holds Active Waiting
 
-abbrev pub opened_if : State → Result Bool PreFault → Result State PreFault
-opened_if state (Ok holds) = Ok (opened state true holds)
-opened_if state (Err fault) = Err fault
+-- `ifdef` wants the name to be defined, and `ifndef` wants it not to be
+abbrev pub is_as_wanted : Bool → Bool → Bool
+is_as_wanted wanted holds = cond wanted holds (not holds)
 
-abbrev pub opened_by_name : List ℕ → ℕ → State → Bool → Option Token → Result State PreFault
-opened_by_name bytes line state wanted None = Err (fault.Directive line)
-opened_by_name bytes line state wanted (Some name) =
-    let holds = is_defined bytes state.macros name in
-    Ok (opened state true (cond wanted holds (not holds)))
+-- an `if` in an active group
+abbrev pub open_if : State → Bool → State
+open_if state holds = with_groups state (group_if holds ∷ state.groups)
 
--- the innermost `if` in another group
-abbrev pub in_group : State → Group → List Group → Bool → State
-in_group state group groups holds = record state { groups = record group { active = holds; had = group.had || holds } ∷ groups }
+-- `elif` and `else`: not looked at where their `if` isn't, and never active after an active group
+abbrev pub after_group : Group → Group
+after_group Outside = Outside
+after_group Waiting = Active
+after_group Active = Past
+after_group Past = Past
 
-abbrev pub turned : State → Group → List Group → Result Bool PreFault → Result State PreFault
-turned state group groups (Ok holds) = Ok (in_group state group groups holds)
-turned state group groups (Err fault) = Err fault
+abbrev pub else_if : ℕ → State → List Token → List Group → Result State PreFault
+else_if line state tokens [] = Ok state
+else_if line state tokens (Waiting ∷ groups) =
+    and_then (condition_of state.definitions line tokens) (λ holds. Ok (with_groups state (group_if holds ∷ groups)))
+else_if line state tokens (group ∷ groups) = Ok (with_groups state (after_group group ∷ groups))
 
--- `elif`: not evaluated after an active group, and not looked at where its `if` isn't
-abbrev pub else_if : List ℕ → ℕ → State → List Token → List Group → Result State PreFault
-else_if bytes line state tokens [] = Ok state
-else_if bytes line state tokens (group ∷ groups) =
-    cond (not group.stands_active) (Ok state)
-    (cond group.had (Ok (in_group state group groups false)) (turned state group groups (condition_of bytes state.macros line tokens)))
-
-abbrev pub is_nothing : List Token → Bool
-is_nothing [] = true
-is_nothing (token ∷ tokens) = false
+-- nothing stands behind the word, or nothing of the `if` is looked at
+abbrev pub bare : ℕ → Group → List Token → Result Group PreFault
+bare line Outside tokens = Ok Outside
+bare line group [] = Ok group
+bare line group (token ∷ tokens) = Err (fault.Directive line)
 
 abbrev pub else_of : ℕ → State → List Token → List Group → Result State PreFault
 else_of line state tokens [] = Ok state
-else_of line state tokens (group ∷ groups) =
-    cond (not group.stands_active) (Ok state)
-    (cond (is_nothing tokens) (Ok (in_group state group groups (not group.had))) (Err (fault.Directive line)))
+else_of line state tokens (group ∷ groups) = and_then (bare line group tokens) (λ group. Ok (with_groups state (after_group group ∷ groups)))
 
-abbrev pub end_of : ℕ → State → List Token → List Group → Result State PreFault
-end_of line state tokens [] = Ok state
-end_of line state tokens (group ∷ groups) =
-    cond (group.stands_active && not (is_nothing tokens)) (Err (fault.Directive line)) (Ok (record state { groups = groups }))
+abbrev pub end_if : ℕ → State → List Token → List Group → Result State PreFault
+end_if line state tokens [] = Ok state
+end_if line state tokens (group ∷ groups) = and_then (bare line group tokens) (λ group. Ok (with_groups state groups))
 
 -- a directive in an active group
-abbrev pub carried_out : List ℕ → ℕ → State → Command → Result State PreFault
-carried_out bytes line state Nothing = Ok state
-carried_out bytes line state (Include tokens) = Err (fault.Header line)
-carried_out bytes line state (Define tokens) = defined_by bytes line state tokens
-carried_out bytes line state (Undefine tokens) = undefined_by bytes line state (only_name tokens)
-carried_out bytes line state (If tokens) = opened_if state (condition_of bytes state.macros line tokens)
-carried_out bytes line state (IfDefined tokens) = opened_by_name bytes line state true (only_name tokens)
-carried_out bytes line state (IfUndefined tokens) = opened_by_name bytes line state false (only_name tokens)
-carried_out bytes line state (ElseIf tokens) = else_if bytes line state tokens state.groups
-carried_out bytes line state (Else tokens) = else_of line state tokens state.groups
-carried_out bytes line state (EndIf tokens) = end_of line state tokens state.groups
-carried_out bytes line state Pragma = Ok state
-carried_out bytes line state Unknown = Err (fault.Directive line)
+abbrev pub carry_out : ℕ → State → Command → Result State PreFault
+carry_out line state Nothing = Ok state
+carry_out line state (Include tokens) = Err (fault.Header line)
+carry_out line state (Define tokens) = define line state tokens
+carry_out line state (Undefine tokens) = and_then (or_directive line (only_name tokens)) (λ name. Ok (undefine state name))
+carry_out line state (If tokens) = and_then (condition_of state.definitions line tokens) (λ holds. Ok (open_if state holds))
+carry_out line state (IfDefined tokens) = and_then (or_directive line (only_name tokens)) (λ name. Ok (open_if state (is_as_wanted true (is_defined state.definitions name))))
+carry_out line state (IfUndefined tokens) = and_then (or_directive line (only_name tokens)) (λ name. Ok (open_if state (is_as_wanted false (is_defined state.definitions name))))
+carry_out line state (ElseIf tokens) = else_if line state tokens state.groups
+carry_out line state (Else tokens) = else_of line state tokens state.groups
+carry_out line state (EndIf tokens) = end_if line state tokens state.groups
+carry_out line state Pragma = Ok state
+carry_out line state Unknown = Err (fault.Directive line)
 
 -- a directive in a group that isn't active: only nesting counts
-abbrev pub passed_over : List ℕ → ℕ → State → Command → Result State PreFault
-passed_over bytes line state (If tokens) = Ok (opened state false false)
-passed_over bytes line state (IfDefined tokens) = Ok (opened state false false)
-passed_over bytes line state (IfUndefined tokens) = Ok (opened state false false)
-passed_over bytes line state (ElseIf tokens) = else_if bytes line state tokens state.groups
-passed_over bytes line state (Else tokens) = else_of line state tokens state.groups
-passed_over bytes line state (EndIf tokens) = end_of line state tokens state.groups
-passed_over bytes line state Nothing = Ok state
-passed_over bytes line state (Include tokens) = Ok state
-passed_over bytes line state (Define tokens) = Ok state
-passed_over bytes line state (Undefine tokens) = Ok state
-passed_over bytes line state Pragma = Ok state
-passed_over bytes line state Unknown = Ok state
+abbrev pub pass_over : ℕ → State → Command → Result State PreFault
+pass_over line state (If tokens) = Ok (with_groups state (Outside ∷ state.groups))
+pass_over line state (IfDefined tokens) = Ok (with_groups state (Outside ∷ state.groups))
+pass_over line state (IfUndefined tokens) = Ok (with_groups state (Outside ∷ state.groups))
+pass_over line state (ElseIf tokens) = else_if line state tokens state.groups
+pass_over line state (Else tokens) = else_of line state tokens state.groups
+pass_over line state (EndIf tokens) = end_if line state tokens state.groups
+pass_over line state Nothing = Ok state
+pass_over line state (Include tokens) = Ok state
+pass_over line state (Define tokens) = Ok state
+pass_over line state (Undefine tokens) = Ok state
+pass_over line state Pragma = Ok state
+pass_over line state Unknown = Ok state
 
-abbrev pub after_directive : List ℕ → ℕ → State → Command → Result State PreFault
-after_directive bytes line state command =
-    cond (is_active state.groups) (carried_out bytes line state command) (passed_over bytes line state command)
-
-abbrev pub then_state : Result State PreFault → (State → Outcome) → Outcome
-then_state (Ok state) next = next state
-then_state (Err fault) next = Err fault
-
-abbrev pub with_tokens : List Token → Outcome → Outcome
-with_tokens tokens (Ok behind) = Ok (tokens ++ behind)
-with_tokens tokens (Err fault) = Err fault
+abbrev pub after_directive : ℕ → State → Command → Result State PreFault
+after_directive line state command = cond (is_active state.groups) (carry_out line state command) (pass_over line state command)
 
 -- a token that is no part of a directive
-abbrev pub after_token : List ℕ → State → Token → (State → Outcome) → Outcome
-after_token bytes state token next =
-    let out = expansion_of_token bytes state.macros token in
-    cond (not (is_active state.groups) && not (same_kind token.kind End)) (next state)
-    (cond (is_mark bytes token (codes "#")) (Err (fault.Directive token.line))
-    (cond (nat_lt token_limit (state.count + length out)) (Err (fault.Expanded token.line))
-    (with_tokens out (next (record state { count = state.count + length out })))))
+abbrev pub after_token : State → Token → Result State PreFault
+after_token state token =
+    cond (not (is_active state.groups) && not (same_kind token.kind End)) (Ok state)
+    (cond (is_mark state.definitions.bytes token (codes "#")) (Err (fault.Directive token.line))
+    (and_then (with_expansion state.definitions token state.out) (λ out. Ok (record state { out = out }))))
+
+abbrev pub after_block : State → Block → Result State PreFault
+after_block state (Plain token) = after_token state token
+after_block state (Directive hash tokens) = after_directive hash.line state (command_of state.definitions.bytes tokens)
 
 -- the blocks one after another, up to the first fault
-unfoldable pub carried : List ℕ → State → List Block → Outcome
-carried bytes state [] = Ok []
-carried bytes state (Plain token ∷ blocks) = after_token bytes state token (λ after. carried bytes after blocks)
-carried bytes state (Directive hash tokens ∷ blocks) =
-    then_state (after_directive bytes hash.line state (command_of bytes tokens)) (λ after. carried bytes after blocks)
+unfoldable pub after_blocks : State → List Block → Result State PreFault
+after_blocks state [] = Ok state
+after_blocks state (block ∷ blocks) = and_then (after_block state block) (λ after. after_blocks after blocks)
 
 -- ---- the whole
+
+abbrev pub Outcome : Type 0
+Outcome = Result (List Token) PreFault
 
 abbrev pub line_of : PreFault → ℕ
 line_of (fault.Directive line) = line
@@ -261,10 +249,6 @@ first_fault None outcome = outcome
 first_fault (Some line) (Ok tokens) = Err (fault.Unbalanced line)
 first_fault (Some line) (Err other) = cond (nat_lt (line_of other) line) (Err other) (Err (fault.Unbalanced line))
 
--- the bytes of the expanded tokens: those of the file, and the 1 that __FILC__ stands for
-abbrev pub bytes_with_one : List ℕ → List ℕ
-bytes_with_one bytes = bytes ++ codes "1"
-
 -- the only macro that is there at the beginning
 abbrev pub filc_macro : List ℕ → Macro
 filc_macro bytes = record {
@@ -273,11 +257,12 @@ filc_macro bytes = record {
 }
 
 abbrev pub first_state : List ℕ → State
-first_state bytes = record { macros = filc_macro bytes ∷ []; groups = []; count = 0 }
+first_state bytes = record { definitions = record { bytes = with_digits bytes; macros = filc_macro bytes ∷ [] }; groups = []; out = [] }
+
+-- the tokens when all blocks are carried out
+abbrev pub list_of : List ℕ → List Token → Outcome
+list_of bytes tokens = and_then (after_blocks (first_state bytes) (blocks_of (with_digits bytes) 0 tokens)) (λ state. Ok state.out)
 
 -- the expansion of a token list whose tokens are slices of these bytes, or its first fault
 abbrev pub expansion_of : List ℕ → List Token → Outcome
-expansion_of bytes tokens =
-    let texts = bytes_with_one bytes in
-    let blocks = blocks_of texts 0 tokens in
-    first_fault (unbalanced_line texts [] blocks) (carried texts (first_state bytes) blocks)
+expansion_of bytes tokens = first_fault (unbalanced_line (with_digits bytes) [] (blocks_of (with_digits bytes) 0 tokens)) (list_of bytes tokens)

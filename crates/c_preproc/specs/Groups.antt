@@ -1,7 +1,11 @@
 -- Conditional groups, by nesting alone.
-use Rattle.std.specs.Prelude.{ℕ, min, Bool, true, false, cond, List, [], ◌∷◌, Option, Some, None}
-use Rattle.c_preproc.specs.declared.groups.Open.{Open}
+use Rattle.std.specs.Prelude.{ℕ, min, Bool, false, true, cond, ◌||◌, List, [], ◌∷◌, Option, Some, None}
 use Rattle.c_preproc.specs.Directives.{Block, Directive, Plain, Command, Nothing, Include, Define, Undefine, If, IfDefined, IfUndefined, ElseIf, Else, EndIf, Pragma, Unknown, command_of}
+
+-- an `if` that is open: its line, and whether its `else` came
+pub record Open : Type 0 where
+  pub line : ℕ
+  pub has_else : Bool
 
 -- the earlier of two lines
 abbrev pub earlier : Option ℕ → Option ℕ → Option ℕ
@@ -19,7 +23,7 @@ outermost (o ∷ p ∷ rest) = outermost (p ∷ rest)
 abbrev pub part : ℕ → Bool → List Open → (List Open → Option ℕ) → Option ℕ
 part line is_else [] next = Some line
 part line is_else (o ∷ open_ifs) next =
-    earlier (cond o.has_else (Some line) None) (next (record o { has_else = cond is_else true o.has_else } ∷ open_ifs))
+    earlier (cond o.has_else (Some line) None) (next (record o { has_else = is_else || o.has_else } ∷ open_ifs))
 
 abbrev pub after_end : ℕ → List Open → (List Open → Option ℕ) → Option ℕ
 after_end line [] next = Some line

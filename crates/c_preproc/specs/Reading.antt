@@ -7,8 +7,6 @@ use Rattle.filc_num.specs.declared.integer.BinOp.TheVariants as op
 use Rattle.filc_num.specs.declared.integer.IntType.{IntType}
 use Rattle.filc_num.specs.declared.integer.IntType.TheVariants.{I64, U64}
 use Rattle.filc_num.specs.Integers.{binary_of, is_comparison, truth_of}
-use Rattle.c_preproc.specs.declared.condition.Piece.{Piece}
-use Rattle.c_preproc.specs.declared.condition.Piece.TheVariants.{Known, Word}
 use Rattle.c_preproc.specs.declared.condition_value.Value.{Value}
 use Rattle.c_preproc.specs.declared.condition_value.Sign.{Sign}
 use Rattle.c_preproc.specs.declared.condition_value.Sign.TheVariants as sign
@@ -116,10 +114,6 @@ operator_in (mark.SignOrOperator s o) = Some o
 operator_in _ = None
 
 -- ---- items
-
-abbrev pub is_piece_within : ℕ → Piece → Bool
-is_piece_within size (Known b line) = true
-is_piece_within size (Word token) = nat_le token.start token.end && nat_le token.end size
 
 abbrev pub operand : ℕ → Bool → Item
 operand bits unsigned = item.Operand (value unsigned (Some bits))

@@ -1,19 +1,19 @@
--- The state of the code as the definition's, and its innermost `if`.
-use Rattle.std.specs.Prelude.{Bool, ◌||◌, List, [], ◌∷◌, reverse, Option, Some, None}
+-- The state of the code as the definition's.
+use Rattle.std.specs.Prelude.{List, map, reverse}
 use Rattle.c_preproc.specs.declared.state.Group.{Group}
+use Rattle.c_preproc.specs.declared.state.Group.TheVariants as group
 use Rattle.c_preproc.specs.declared.state.State.{State}
-use Rattle.c_preproc.specs.Expansion.{State as DefinedState}
+use Rattle.c_preproc.specs.Expansion.{Group as DefinedGroup, Outside, Waiting, Active, Past, State as DefinedState}
 
--- the same, with the open `if`s innermost first
+abbrev pub group_of : Group → DefinedGroup
+group_of group.Outside = Outside
+group_of group.Waiting = Waiting
+group_of group.Active = Active
+group_of group.Past = Past
+
+-- the open `if`s, innermost first
+abbrev pub groups_of : List Group → List DefinedGroup
+groups_of groups = map group_of (reverse groups)
+
 abbrev pub seen : State → DefinedState
-seen state = record { macros = state.macros; groups = reverse state.groups.items; count = state.count }
-
--- the innermost `if`
-abbrev pub innermost : List Group → Option Group
-innermost [] = None
-innermost (group ∷ groups) = Some group
-
--- the innermost `if` in another group
-abbrev pub with_group : Bool → List Group → List Group
-with_group holds [] = []
-with_group holds (group ∷ groups) = record group { active = holds; had = group.had || holds } ∷ groups
+seen state = record { definitions = state.macros; groups = groups_of state.groups.items; out = state.out.items }

@@ -2,12 +2,11 @@
 --
 -- An entry is defined if the index leads from its name to its place. So what is undefined only
 -- leaves the index, and its entry stays where it is.
-use Rattle.std.specs.Prelude.{◌≡◌, ℕ, suc, Bool, IsTrue, false, cond, ◌==◌, ◌≤◌, length, List, [], ◌∷◌, Option, Some, None, IsSomeAnd, slice_get, Vec}
+use Rattle.std.specs.Prelude.{◌≡◌, ℕ, suc, Bool, false, cond, not, ◌==◌, length, List, [], ◌∷◌, Option, Some, None, IsSomeAnd, slice_get, Vec}
 use Rattle.std.specs.declared.alloc.Global.{Global}
 use Rattle.std.specs.BTreeMap.{BTreeMap, get_by}
 use Rattle.std.specs.Cmp.Lexicographic.{slice_cmp}
 use Rattle.std.specs.Ordering.{nat_cmp}
-use Rattle.c_lexer.specs.List.{all_within}
 use Rattle.c_lexer.specs.declared.token.Token.{Token}
 use Rattle.c_preproc.specs.declared.macros.Entry.{Entry}
 use Rattle.c_preproc.specs.Macros.{Macro}
@@ -49,13 +48,10 @@ body_of (Some entry) = entry.body.items
 abbrev pub body_at : List Entry → ℕ → List Token
 body_at entries place = body_of (slice_get entries place)
 
--- the tokens of the entries that the index leads to are slices of so many bytes
-abbrev pub IsBounded : ℕ → (List ℕ → Option ℕ) → List Entry → Type 0
-IsBounded size places entries = (name : List ℕ) (place : ℕ) → places name ≡ Some place → IsTrue (all_within size (body_at entries place))
+abbrev pub name_of : Option Entry → List ℕ
+name_of None = []
+name_of (Some entry) = entry.name.items
 
--- what holds of a table between two calls
-pub record IsTable (places : List ℕ → Option ℕ) (entries : List Entry) (count : ℕ) (seats spots : List ℕ) : Type 0 where
-  pub indexed : IsIndexed places entries
-  pub counted : count ≡ length (defined_of places entries)
-  pub seated : length entries ≤ length seats
-  pub spotted : length entries ≤ length spots
+-- the name of the entry at a place
+abbrev pub name_at : List Entry → ℕ → List ℕ
+name_at entries place = name_of (slice_get entries place)

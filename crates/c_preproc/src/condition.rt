@@ -1,111 +1,91 @@
-//! Conditions: whether the expression of an `if` holds.
-//!
-//! Read `specs/Condition.antt` first: `truth_of_items` parses the items and evaluates the tree. Here no
-//! tree is made, and the stack of frames grows with the nesting in place of calls.
+//! Conditions: each `defined` decided, macros expanded in what is left, and the value of that.
 
-ghost use Rattle.std.specs.Prelude.{◌≡◌, length, reverse, IfOk, IsTrue};
-ghost use Rattle.std.specs.List.{list_all, list_any};
-ghost use Rattle.std.specs.Option.{option_map, option_and_then};
-ghost use Rattle.c_lexer.specs.Number.{is_u};
-ghost use Rattle.c_preproc.specs.Condition.{item_of_kind, is_unsigned, truth_of_items};
-ghost use Rattle.c_preproc.specs.Expansion.{item_of, items_of};
-ghost use Rattle.c_preproc.specs.Reading.{is_piece_within, operand, item_as_read, truth, state, end_of};
+ghost use Rattle.std.specs.Prelude.{◌≡◌, ◌≤◌, ◌<◌, ◌^◌, length, IfSome};
+ghost use Rattle.c_preproc.specs.Expansion.{asked, condition_of, decided_of, or_directive, truth_token};
+ghost use Rattle.c_preproc.specs.Outcomes.{Gives};
 
-use crate::condition_mark::read_mark;
-use crate::condition_reader::{Frame, Item, Mode, finish, take};
-use crate::condition_value::{Value, truth};
-use c_lexer::{Token, TokenKind, read_character, read_number};
-use std::alloc::{AllocError, Global};
+use crate::condition_items::holds;
+use crate::expansion::append_expansions;
+use crate::fault::PreFault;
+use crate::macros::Macros;
+use crate::texts::{is_mark, is_name, is_word};
+use c_lexer::{Token, TokenKind};
+use std::alloc::Global;
 
-/// A token of a condition.
-#[derive(Clone, Copy)]
-pub enum Piece {
-    /// What `defined` says of a name, and the line of the `defined`.
-    Known(bool, u32),
-    /// Another token.
-    Word(Token),
+/// The name that `defined` asks for, and the number of tokens behind `defined` that do so.
+fn asked(bytes: &[u8], tokens: &[Token]) -> Option<(Token, usize)>
+    ensures value { result ≡ asked bytes.now tokens.now }
+    ensures within { IfSome result (λ a. a.1 ≤ length tokens.now) }
+{
+    match *tokens {
+        [name, ..] if is_name(name) => Some((name, 1)),
+        [left, name, right, ..]
+            if is_mark(bytes, left, b"(") && is_name(name) && is_mark(bytes, right, b")") => {
+            Some((name, 3))
+        }
+        _ => None,
+    }
 }
 
-/// Whether a condition holds: None where its pieces are no expression, or where it has no value.
-///
-/// Each piece is looked at once. Memory is taken for each part that is open, so the depth of the parts
-/// isn't limited.
-pub fn holds(alloc: Global, bytes: &[u8], pieces: &[Piece]) -> Result<Option<bool>, AllocError>
-    requires { IsTrue (list_all (is_piece_within (length bytes.now)) pieces.now) }
-    ensures { IfOk result (λ holds. holds ≡ option_and_then truth_of_items (items_of bytes.now pieces.now)) }
+/// The number that a `defined` stands for: one of the last two bytes, a 1 and a 0.
+fn truth_token(bytes: &[u8], holds: bool, token: Token) -> Token
+    requires digits { 2 ≤ length bytes.now }
+    requires small { length bytes.now < 2 ^ 32 }
+    ensures { result ≡ truth_token bytes.now holds token }
 {
-    let mut frames = Vec::new(alloc);
-    let mut mode = Mode::Wanted;
-    for piece in pieces {
-        let Some(item) = read_item(bytes, *piece) else {
-            return Ok(None);
+    let back = if holds { 2 } else { 1 };
+    let start = (bytes.len() - back) as u32;
+    Token {
+        kind: TokenKind::Number,
+        start,
+        end: start + 1,
+        ..token
+    }
+}
+
+/// The tokens of a condition, with each `defined` decided.
+fn decide(
+    alloc: Global,
+    macros: &Macros,
+    line: u32,
+    tokens: &[Token],
+) -> Result<Vec<Token>, PreFault>
+    ensures { Gives (or_directive line (decided_of macros.now 0 tokens.now)) (λ decided. decided.items) result }
+{
+    let bytes = macros.bytes();
+    let mut decided = Vec::new(alloc);
+    let mut rest = tokens;
+    while let Some((token, behind)) = rest.split_first() {
+        if !is_word(bytes, *token, b"defined") {
+            decided.push(*token)?;
+            rest = behind;
+            continue;
+        }
+        let Some((name, count)) = asked(bytes, behind) else {
+            return Err(PreFault::Directive(line));
         };
-        match take(&mut frames, mode, item)? {
-            Some(next) => mode = next,
-            None => return Ok(None),
-        }
+        decided.push(truth_token(bytes, macros.is_defined(name), *token))?;
+        let (_, after) = behind.split_at(count);
+        rest = after;
     }
-    Ok(truth_at_end(frames, mode))
+    Ok(decided)
 }
 
-fn truth_at_end(frames: Vec<Frame>, mode: Mode) -> Option<bool>
-    ensures { result ≡ option_and_then (λ value. truth value.bits) (end_of (state (reverse frames.items) mode)) }
+/// Whether a condition holds.
+pub fn condition_of(
+    alloc: Global,
+    macros: &mut Macros,
+    line: u32,
+    tokens: &[Token],
+) -> Result<bool, PreFault>
+    ensures same { macros.new ≡ macros.old }
+    ensures holds { Gives (condition_of macros.old line tokens.now) (λ holds. holds) result }
 {
-    let value = finish(frames, mode)?;
-    truth(value.bits)
-}
-
-/// The item of a piece.
-fn read_item(bytes: &[u8], piece: Piece) -> Option<Item>
-    requires { IsTrue (is_piece_within (length bytes.now) piece) }
-    ensures { result ≡ option_map item_as_read (item_of bytes.now piece) }
-{
-    match piece {
-        Piece::Known(b, _) => Some(operand(u64::from(b), false)),
-        Piece::Word(token) => {
-            let text = &bytes[token.start as usize..token.end as usize];
-            item_of_kind(token.kind, text)
-        }
+    let decided = decide(alloc, macros, line, tokens)?;
+    let mut expanded = Vec::new(alloc);
+    append_expansions(macros, &decided, &mut expanded)?;
+    match holds(alloc, macros.bytes(), &expanded)? {
+        Some(holds) => Ok(holds),
+        None => Err(PreFault::Directive(line)),
     }
-}
-
-fn operand(bits: u64, unsigned: bool) -> Item
-    ensures { result ≡ operand bits unsigned }
-{
-    Item::Operand(Value {
-        unsigned,
-        bits: Some(bits),
-    })
-}
-
-/// A token as an item: a name that is left over is 0, and a text is none.
-fn item_of_kind(kind: TokenKind, text: &[u8]) -> Option<Item>
-    ensures { result ≡ option_map item_as_read (item_of_kind kind text.now) }
-{
-    match kind {
-        TokenKind::Name => Some(operand(0, false)),
-        TokenKind::Number => {
-            let number = read_number(text)?;
-            Some(operand(number.value, is_unsigned(text, number.value)))
-        }
-        TokenKind::Character => {
-            let value = read_character(text)?;
-            Some(operand(value, false))
-        }
-        TokenKind::Punct => Some(Item::Mark(read_mark(text))),
-        TokenKind::Text | TokenKind::End => None,
-    }
-}
-
-/// A number is unsigned where it has a u, or where 64 signed bits don't hold it.
-fn is_unsigned(text: &[u8], value: u64) -> bool
-    ensures { result ≡ is_unsigned text.now value }
-{
-    has_u(text) || value >= 1 << 63
-}
-
-fn has_u(text: &[u8]) -> bool
-    ensures { result ≡ list_any is_u text.now }
-{
-    text.iter().any(|b| *b == b'u' || *b == b'U')
 }

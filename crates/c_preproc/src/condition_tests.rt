@@ -4,35 +4,27 @@
 //! The contract says that the answers are those of the definitions; these rows say that the definitions
 //! mean C.
 
-ghost use Rattle.std.specs.Prelude.{length, IfOk, IsTrue};
-ghost use Rattle.std.specs.List.{list_all};
-ghost use Rattle.c_lexer.specs.List.{all_within};
-ghost use Rattle.c_preproc.specs.Reading.{is_piece_within};
-
-use crate::condition::{Piece, holds};
+use crate::condition_items::holds;
 use c_lexer::{Token, TokenKind, lex};
 use std::alloc::{AllocError, Global};
 use std::test::*;
 
-/// The tokens but the end, as they are.
-fn words(alloc: Global, bytes: &[u8], tokens: &[Token]) -> Result<Vec<Piece>, AllocError>
-    requires { IsTrue (all_within (length bytes.now) tokens.now) }
-    ensures { IfOk result (λ pieces. IsTrue (list_all (is_piece_within (length bytes.now)) pieces.items)) }
-{
-    let mut pieces = Vec::new(alloc);
+/// The tokens but the end.
+fn words(alloc: Global, tokens: &[Token]) -> Result<Vec<Token>, AllocError> {
+    let mut words = Vec::new(alloc);
     for token in tokens {
         if token.kind != TokenKind::End {
-            pieces.push(Piece::Word(*token))?;
+            words.push(*token)?;
         }
     }
-    Ok(pieces)
+    Ok(words)
 }
 
 /// The answer to a text.
 fn answer(alloc: Global, text: &[u8]) -> Result<Option<bool>, Fail> {
     let tokens = lex(alloc, text)?;
-    let pieces = words(alloc, &tokens.bytes, &tokens.list)?;
-    Ok(holds(alloc, &tokens.bytes, &pieces)?)
+    let words = words(alloc, &tokens.list)?;
+    Ok(holds(alloc, &tokens.bytes, &words)?)
 }
 
 #[test]

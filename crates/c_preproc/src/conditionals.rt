@@ -1,157 +1,142 @@
 //! Directives of conditional groups: `if` and its kin, `elif`, `else` and `endif`.
 
-ghost use Rattle.std.specs.Prelude.{◌≡◌, ◌≢◌, ◌∷◌, Ok, Err, IfErr, IsTrue, OnOk, length, reverse};
-ghost use Rattle.c_lexer.specs.List.{all_within};
-ghost use Rattle.c_preproc.specs.Expansion.{is_active, only_name, opened, opened_if, opened_by_name, else_if, is_nothing, else_of, end_of, condition_of};
-ghost use Rattle.c_preproc.specs.Seen.{seen, innermost, with_group};
-ghost use Rattle.c_preproc.specs.Within.{macros_within};
+ghost use Rattle.std.specs.Prelude.{◌≡◌, ◌∷◌, OnOk, Ok};
+ghost use Rattle.c_preproc.specs.Expansion.{after_group, bare, condition_of, else_if, else_of, end_if, group_if, is_active, is_as_wanted, is_defined, only_name, open_if, or_directive, with_groups};
+ghost use Rattle.c_preproc.specs.Outcomes.{Gives, and_then};
+ghost use Rattle.c_preproc.specs.Seen.{group_of, groups_of, seen};
 
+use crate::condition::condition_of;
 use crate::fault::PreFault;
 use crate::names::only_name;
-use crate::pieces::{condition_of, is_defined};
 use crate::state::{Group, State};
 use c_lexer::Token;
 use std::alloc::{AllocError, Global};
 
 /// Whether what stands behind these open `if`s is in an active group.
 pub fn is_active(groups: &[Group]) -> bool
-    ensures { result ≡ is_active (reverse groups.now) }
+    ensures { result ≡ is_active (groups_of groups.now) }
 {
-    match innermost(groups) {
-        Some(group) => group.active,
+    match groups.last() {
         None => true,
+        Some(group) => matches!(*group, Group::Active),
     }
 }
 
-fn innermost(groups: &[Group]) -> Option<Group>
-    ensures { result ≡ innermost (reverse groups.now) }
+/// The group that a condition chooses.
+fn group_if(holds: bool) -> Group
+    ensures { group_of result ≡ group_if holds }
 {
-    groups.last().copied()
+    if holds { Group::Active } else { Group::Waiting }
 }
 
-/// Puts the innermost `if` in another group.
-fn turn(groups: &mut Vec<Group>, holds: bool)
-    ensures { reverse groups.new.items ≡ with_group holds (reverse groups.old.items) }
+/// The group behind this one, if no condition is evaluated.
+fn after_group(group: Group) -> Group
+    ensures { group_of result ≡ after_group (group_of group) }
 {
-    let count = groups.len();
-    if count == 0 {
-        return;
+    match group {
+        Group::Outside => Group::Outside,
+        Group::Waiting => Group::Active,
+        Group::Active | Group::Past => Group::Past,
     }
-    let group = groups[count - 1];
-    let had = group.had || holds;
-    groups[count - 1] = Group {
-        stands_active: group.stands_active,
-        active: holds,
-        had,
-    };
 }
 
 /// Opens an `if`.
-pub fn open_group(state: &mut State, stands_active: bool, holds: bool) -> Result<(), AllocError>
-    ensures { OnOk result (seen state.new ≡ opened (seen state.old) stands_active holds) }
+pub fn open_group(state: &mut State, group: Group) -> Result<(), AllocError>
+    ensures { let old = seen state.old in
+        OnOk result (seen state.new ≡ with_groups old (group_of group ∷ old.groups)) }
 {
-    state.groups.push(Group {
-        stands_active,
-        active: holds,
-        had: holds,
-    })?;
+    state.groups.push(group)?;
     Ok(())
 }
 
 /// `if` in an active group.
 pub fn open_if(
     alloc: Global,
-    bytes: &[u8],
     state: &mut State,
     line: u32,
     tokens: &[Token],
 ) -> Result<(), PreFault>
-    requires tokens { IsTrue (all_within (length bytes.now) tokens.now) }
-    requires bodies { IsTrue (macros_within (length bytes.now) state.old.macros) }
-    ensures ok { OnOk result (opened_if (seen state.old) (condition_of bytes.now state.old.macros line tokens.now) ≡ Ok (seen state.new)) }
-    ensures fault { IfErr result (λ fault. fault ≢ PreFault.NoMemory → opened_if (seen state.old) (condition_of bytes.now state.old.macros line tokens.now) ≡ Err fault) }
+    ensures { let old = seen state.old in
+        Gives (and_then (condition_of old.definitions line tokens.now) (λ holds. Ok (open_if old holds)))
+        (λ _. seen state.new) result }
 {
-    let holds = condition_of(alloc, bytes, &mut state.macros, line, tokens)?;
-    open_group(state, true, holds)?;
+    let holds = condition_of(alloc, &mut state.macros, line, tokens)?;
+    open_group(state, group_if(holds))?;
     Ok(())
 }
 
-/// `ifdef`, which wants the name to be defined, and `ifndef`.
+/// `ifdef` and `ifndef`.
 pub fn open_by_name(
-    bytes: &[u8],
     state: &mut State,
     line: u32,
     wanted: bool,
     tokens: &[Token],
 ) -> Result<(), PreFault>
-    requires { IsTrue (all_within (length bytes.now) tokens.now) }
-    ensures ok { OnOk result (opened_by_name bytes.now line (seen state.old) wanted (only_name tokens.now) ≡ Ok (seen state.new)) }
-    ensures fault { IfErr result (λ fault. fault ≢ PreFault.NoMemory → opened_by_name bytes.now line (seen state.old) wanted (only_name tokens.now) ≡ Err fault) }
+    ensures { let old = seen state.old in
+        Gives (and_then (or_directive line (only_name tokens.now))
+        (λ name. Ok (open_if old (is_as_wanted wanted (is_defined old.definitions name)))))
+        (λ _. seen state.new) result }
 {
     let Some(name) = only_name(tokens) else {
         return Err(PreFault::Directive(line));
     };
-    let holds = is_defined(bytes, &state.macros, name) == wanted;
-    open_group(state, true, holds)?;
+    let holds = state.macros.is_defined(name) == wanted;
+    open_group(state, group_if(holds))?;
     Ok(())
 }
 
 /// `elif`, which is not evaluated after an active group, and not looked at where its `if` isn't.
-pub fn turn_else_if(
+pub fn else_if(
     alloc: Global,
-    bytes: &[u8],
     state: &mut State,
     line: u32,
     tokens: &[Token],
 ) -> Result<(), PreFault>
-    requires tokens { IsTrue (all_within (length bytes.now) tokens.now) }
-    requires bodies { IsTrue (macros_within (length bytes.now) state.old.macros) }
-    ensures ok { OnOk result (else_if bytes.now line (seen state.old) tokens.now (reverse state.old.groups.items) ≡ Ok (seen state.new)) }
-    ensures fault { IfErr result (λ fault. fault ≢ PreFault.NoMemory → else_if bytes.now line (seen state.old) tokens.now (reverse state.old.groups.items) ≡ Err fault) }
-{
-    let Some(group) = innermost(&state.groups) else {
-        return Ok(());
-    };
-    if !group.stands_active {
-        return Ok(());
-    }
-    if group.had {
-        turn(&mut state.groups, false);
-        return Ok(());
-    }
-    let holds = condition_of(alloc, bytes, &mut state.macros, line, tokens)?;
-    turn(&mut state.groups, holds);
-    Ok(())
-}
-
-/// `else`.
-pub fn turn_else(state: &mut State, line: u32, tokens: &[Token]) -> Result<(), PreFault>
-    ensures ok { OnOk result (else_of line (seen state.old) tokens.now (reverse state.old.groups.items) ≡ Ok (seen state.new)) }
-    ensures fault { IfErr result (λ fault. else_of line (seen state.old) tokens.now (reverse state.old.groups.items) ≡ Err fault) }
-{
-    let Some(group) = innermost(&state.groups) else {
-        return Ok(());
-    };
-    if !group.stands_active {
-        return Ok(());
-    }
-    if !tokens.is_empty() {
-        return Err(PreFault::Directive(line));
-    }
-    turn(&mut state.groups, !group.had);
-    Ok(())
-}
-
-/// `endif`.
-pub fn close_group(state: &mut State, line: u32, tokens: &[Token]) -> Result<(), PreFault>
-    ensures ok { OnOk result (end_of line (seen state.old) tokens.now (reverse state.old.groups.items) ≡ Ok (seen state.new)) }
-    ensures fault { IfErr result (λ fault. end_of line (seen state.old) tokens.now (reverse state.old.groups.items) ≡ Err fault) }
+    ensures { let old = seen state.old in
+        Gives (else_if line old tokens.now old.groups) (λ _. seen state.new) result }
 {
     let Some(group) = state.groups.pop() else {
         return Ok(());
     };
-    if group.stands_active && !tokens.is_empty() {
-        return Err(PreFault::Directive(line));
-    }
+    let next = match group {
+        Group::Waiting => group_if(condition_of(alloc, &mut state.macros, line, tokens)?),
+        _ => after_group(group),
+    };
+    state.groups.push(next)?;
     Ok(())
+}
+
+/// A word with nothing behind it, which isn't looked at where its `if` isn't.
+fn bare(line: u32, group: Group, tokens: &[Token]) -> Result<(), PreFault>
+    ensures { Gives (bare line (group_of group) tokens.now) (λ _. group_of group) result }
+{
+    if matches!(group, Group::Outside) || tokens.is_empty() {
+        Ok(())
+    } else {
+        Err(PreFault::Directive(line))
+    }
+}
+
+/// `else`.
+pub fn else_of(state: &mut State, line: u32, tokens: &[Token]) -> Result<(), PreFault>
+    ensures { let old = seen state.old in
+        Gives (else_of line old tokens.now old.groups) (λ _. seen state.new) result }
+{
+    let Some(group) = state.groups.pop() else {
+        return Ok(());
+    };
+    bare(line, group, tokens)?;
+    state.groups.push(after_group(group))?;
+    Ok(())
+}
+
+/// `endif`.
+pub fn end_if(state: &mut State, line: u32, tokens: &[Token]) -> Result<(), PreFault>
+    ensures { let old = seen state.old in
+        Gives (end_if line old tokens.now old.groups) (λ _. seen state.new) result }
+{
+    let Some(group) = state.groups.pop() else {
+        return Ok(());
+    };
+    bare(line, group, tokens)
 }

@@ -1,10 +1,8 @@
 //! Directives: where one ends, and what its word is.
 
-ghost use Rattle.std.specs.Prelude.{◌≡◌, ◌≤◌, ◌∷◌, length, take, drop, IsTrue, MatchOption};
-ghost use Rattle.c_lexer.specs.List.{all_within};
+ghost use Rattle.std.specs.Prelude.{◌≡◌, ◌≤◌, ◌∷◌, length, take, drop, MatchOption};
 ghost use Rattle.c_preproc.specs.Directives.{rest_of_line, command_of, blocks_of, Plain, Directive};
 ghost use Rattle.c_preproc.specs.Kinds.{command};
-ghost use Rattle.c_preproc.specs.Slices.{is_within};
 
 use crate::texts::{is_mark, is_word};
 use c_lexer::{Token, TokenKind};
@@ -27,7 +25,6 @@ pub enum DirectiveWord {
 }
 
 fn word_of(bytes: &[u8], word: Token) -> DirectiveWord
-    requires { IsTrue (is_within (length bytes.now) word) }
     ensures { (rest : _) → command_of bytes.now (word ∷ rest) ≡ command result rest }
 {
     if is_word(bytes, word, b"include") {
@@ -57,7 +54,6 @@ fn word_of(bytes: &[u8], word: Token) -> DirectiveWord
 
 /// What the directive is that has these tokens behind its `#`.
 pub fn directive_word(bytes: &[u8], tokens: &[Token]) -> DirectiveWord
-    requires { IsTrue (all_within (length bytes.now) tokens.now) }
     ensures { command_of bytes.now tokens.now ≡ command result (drop 1 tokens.now) }
 {
     match *tokens {
@@ -80,7 +76,6 @@ fn line_rest(tokens: &[Token]) -> usize
 /// The number of tokens behind this one that are part of the directive that it begins; none where it
 /// begins none.
 pub fn directive_length(bytes: &[u8], token: Token, behind: &[Token]) -> Option<usize>
-    requires { IsTrue (is_within (length bytes.now) token) }
     ensures block { MatchOption result
         (blocks_of bytes.now 0 (token ∷ behind.now) ≡ Plain token ∷ blocks_of bytes.now 0 behind.now)
         (λ count. blocks_of bytes.now 0 (token ∷ behind.now) ≡ Directive token (take count behind.now) ∷ blocks_of bytes.now 0 (drop count behind.now)) }

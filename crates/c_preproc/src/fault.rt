@@ -14,10 +14,10 @@ pub enum PreFault {
     #[error("bad directive at line {0}")]
     Directive(u32),
     /// A header that isn't there.
-    #[error("no such header at line {0}")]
+    #[error("unknown header at line {0}")]
     Header(u32),
     /// A part or an end without its `if`, a part after `else`, or an `if` without its end.
-    #[error("unbalanced at line {0}")]
+    #[error("unbalanced conditional at line {0}")]
     Unbalanced(u32),
     /// More than 4,194,304 tokens.
     #[error("too many tokens at line {0}")]

@@ -1,13 +1,13 @@
 //! Conditional groups, by nesting alone.
 
-ghost use Rattle.std.specs.Prelude.{◌≡◌, ◌∷◌, [], List, Option, ℕ, length, reverse, IfOk, IsTrue};
-ghost use Rattle.c_lexer.specs.List.{all_within};
+ghost use Rattle.std.specs.Prelude.{◌≡◌, ◌∷◌, [], List, Option, ℕ, IfOk};
 ghost use Rattle.c_lexer.specs.declared.token.Token.{Token};
 ghost use Rattle.c_preproc.specs.Directives.{blocks_of};
 ghost use Rattle.c_preproc.specs.Groups.{earlier, outermost, part, nested, unbalanced_line};
 ghost use Rattle.c_preproc.specs.Kinds.{command};
 ghost use Rattle.c_preproc.specs.Nesting.{after_step};
-ghost use Rattle.c_preproc.specs.declared.groups.Open.{Open};
+ghost use Rattle.c_preproc.specs.Nesting.{opens_of};
+ghost use Rattle.c_preproc.specs.Groups.{Open as DefinedOpen};
 
 use crate::directives::{DirectiveWord, directive_length, directive_word};
 use c_lexer::Token;
@@ -41,7 +41,7 @@ fn earlier(a: Option<u32>, b: Option<u32>) -> Option<u32>
 
 /// The line of the outermost `if` that has no end.
 fn outermost(opened: &[Open]) -> Option<u32>
-    ensures { result ≡ outermost (reverse opened.now) }
+    ensures { result ≡ outermost (opens_of opened.now) }
 {
     match opened.first() {
         None => None,
@@ -50,28 +50,29 @@ fn outermost(opened: &[Open]) -> Option<u32>
 }
 
 /// A part of the innermost `if`.
-fn part(opened: &mut Vec<Open>, is_else: bool, line: u32) -> Step
-    ensures { (next : List Open → Option ℕ) → part line is_else (reverse opened.old.items) next ≡ after_step result line (next (reverse opened.new.items)) }
+fn part(opened: &mut Vec<Open>, is_else: bool, line: u32) -> Result<Step, AllocError>
+    ensures { IfOk result (λ step. (next : List DefinedOpen → Option ℕ)
+        → part line is_else (opens_of opened.old.items) next ≡ after_step step line (next (opens_of opened.new.items))) }
 {
-    let count = opened.len();
-    if count == 0 {
-        return Step::Alone;
-    }
-    let innermost = opened[count - 1];
-    opened[count - 1] = Open {
+    let Some(innermost) = opened.pop() else {
+        return Ok(Step::Alone);
+    };
+    opened.push(Open {
         line: innermost.line,
         has_else: is_else || innermost.has_else,
-    };
+    })?;
     if innermost.has_else {
-        Step::Misplaced
+        Ok(Step::Misplaced)
     } else {
-        Step::Balanced
+        Ok(Step::Balanced)
     }
 }
 
 /// What a directive does to the open `if`s, innermost last.
 fn nest(opened: &mut Vec<Open>, word: DirectiveWord, line: u32) -> Result<Step, AllocError>
-    ensures { IfOk result (λ step. (tokens : List Token) (next : List Open → Option ℕ) → nested line (command word tokens) (reverse opened.old.items) next ≡ after_step step line (next (reverse opened.new.items))) }
+    ensures { IfOk result (λ step. (tokens : List Token) (next : List DefinedOpen → Option ℕ)
+        → nested line (command word tokens) (opens_of opened.old.items) next
+        ≡ after_step step line (next (opens_of opened.new.items))) }
 {
     match word {
         DirectiveWord::If | DirectiveWord::IfDefined | DirectiveWord::IfUndefined => {
@@ -81,8 +82,8 @@ fn nest(opened: &mut Vec<Open>, word: DirectiveWord, line: u32) -> Result<Step, 
             })?;
             Ok(Step::Balanced)
         }
-        DirectiveWord::ElseIf => Ok(part(opened, false, line)),
-        DirectiveWord::Else => Ok(part(opened, true, line)),
+        DirectiveWord::ElseIf => part(opened, false, line),
+        DirectiveWord::Else => part(opened, true, line),
         DirectiveWord::EndIf => match opened.pop() {
             Some(_) => Ok(Step::Balanced),
             None => Ok(Step::Alone),
@@ -102,7 +103,6 @@ pub fn unbalanced_line(
     bytes: &[u8],
     tokens: &[Token],
 ) -> Result<Option<u32>, AllocError>
-    requires { IsTrue (all_within (length bytes.now) tokens.now) }
     ensures { IfOk result (λ line. line ≡ unbalanced_line bytes.now [] (blocks_of bytes.now 0 tokens.now)) }
 {
     let mut opened = Vec::new(alloc);

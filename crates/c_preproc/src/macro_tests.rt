@@ -4,38 +4,25 @@
 //! begins with `!` undefines its name. Every other line is expanded. A token is shown as its line,
 //! `L` if it is marked as the library's, and its text.
 
-ghost use Rattle.std.specs.Prelude.{◌≡◌, ◌≤◌, IsTrue, length};
-ghost use Rattle.c_lexer.specs.List.{all_within};
-ghost use Rattle.c_preproc.specs.Within.{macros_within};
+ghost use Rattle.std.specs.Prelude.{◌≤◌, length};
 
-use crate::expand::Fit;
+use crate::expander::Fit;
 use crate::macros::Macros;
+use crate::texts::text_of;
 use c_lexer::{Token, Tokens, lex};
 use std::alloc::{AllocError, Global};
 use std::test::*;
-
-fn text<'a>(bytes: &'a [u8], token: &Token) -> &'a [u8] {
-    bytes
-        .get(token.start as usize..token.end as usize)
-        .unwrap_or(&[])
-}
 
 fn show(bytes: &[u8], tokens: &[Token], shown: &mut String) -> Result<(), AllocError> {
     for token in tokens {
         let line = token.line;
         let mark = if token.library { "L" } else { "" };
         write!(shown, " {line}{mark}:")?;
-        for b in text(bytes, token) {
+        for b in text_of(bytes, *token) {
             shown.push(char::from(*b))?;
         }
     }
     Ok(())
-}
-
-fn are_within(bytes: &[u8], tokens: &[Token]) -> bool
-    ensures { result ≡ all_within (length bytes.now) tokens.now }
-{
-    tokens.iter().all(|token| token.start <= token.end && token.end as usize <= bytes.len())
 }
 
 /// The number of tokens of the line that begins the list.
@@ -52,39 +39,26 @@ fn line_end(tokens: &[Token]) -> usize
 
 fn define(
     alloc: Global,
-    bytes: &[u8],
     macros: &mut Macros,
     name: &Token,
     body: &[Token],
-) -> Result<(), AllocError>
-    requires { IsTrue (macros_within (length bytes.now) macros.old) }
-    ensures { IsTrue (macros_within (length bytes.now) macros.new) }
-{
-    let name = text(bytes, name);
-    if macros.body_of(name).is_some() || !are_within(bytes, body) {
+) -> Result<(), AllocError> {
+    if macros.is_defined(*name) {
         return Ok(());
     }
-    macros.define(alloc, name, body)
+    macros.define_name(alloc, *name, body)
 }
 
 fn expand(
     alloc: Global,
-    bytes: &[u8],
     macros: &mut Macros,
     line: &[Token],
-    room: usize,
     shown: &mut String,
-) -> Result<(), AllocError>
-    requires { IsTrue (macros_within (length bytes.now) macros.old) }
-    ensures { macros.new ≡ macros.old }
-{
+) -> Result<(), AllocError> {
     for token in line {
-        if !are_within(bytes, &[*token]) {
-            return Ok(());
-        }
         let mut out = Vec::new(alloc);
-        match macros.expand(bytes, *token, room, &mut out)? {
-            Fit::Fits => show(bytes, &out, shown)?,
+        match macros.expand(*token, &mut out)? {
+            Fit::Fits => show(macros.bytes(), &out, shown)?,
             Fit::TooMany => shown.push_str(" too many")?,
         }
     }
@@ -93,55 +67,48 @@ fn expand(
 
 fn carry_out(
     alloc: Global,
-    bytes: &[u8],
     macros: &mut Macros,
     line: &[Token],
-    room: usize,
     shown: &mut String,
-) -> Result<(), AllocError>
-    requires { IsTrue (macros_within (length bytes.now) macros.old) }
-    ensures { IsTrue (macros_within (length bytes.now) macros.new) }
-{
+) -> Result<(), AllocError> {
     let [first, others @ ..] = line else {
         return Ok(());
     };
-    match (text(bytes, first), others) {
-        (b"=", [name, body @ ..]) => define(alloc, bytes, macros, name, body),
+    match (text_of(macros.bytes(), *first), others) {
+        (b"=", [name, body @ ..]) => define(alloc, macros, name, body),
         (b"!", [name]) => {
-            macros.undefine(text(bytes, name));
+            macros.undefine(*name);
             Ok(())
         }
-        _ => expand(alloc, bytes, macros, line, room, shown),
+        _ => expand(alloc, macros, line, shown),
     }
 }
 
-fn shown_tokens(alloc: Global, file: &Tokens, room: usize) -> Result<String, AllocError> {
+fn shown_tokens(alloc: Global, file: &Tokens) -> Result<String, AllocError> {
     let mut shown = String::new(alloc);
-    let mut bytes = Vec::from_slice(alloc, &file.bytes)?;
-    if bytes.len() >= 1_000_000 {
+    if file.bytes.len() >= 1_000_000 {
         return Ok(shown);
     }
-    let mut macros = Macros::new(alloc, &bytes)?;
-    bytes.push(b'1')?;
+    let mut macros = Macros::new(alloc, &file.bytes)?;
     let mut tokens = file.list.as_slice();
     for _ in 0..tokens.len() {
         let (line, rest) = tokens.split_at(line_end(tokens));
-        carry_out(alloc, &bytes, &mut macros, line, room, &mut shown)?;
+        carry_out(alloc, &mut macros, line, &mut shown)?;
         tokens = rest;
     }
     Ok(shown)
 }
 
-fn shown(alloc: Global, file: &str, room: usize) -> Result<String, AllocError> {
+fn shown(alloc: Global, file: &str) -> Result<String, AllocError> {
     match lex(alloc, file.as_bytes()) {
-        Ok(tokens) => shown_tokens(alloc, &tokens, room),
+        Ok(tokens) => shown_tokens(alloc, &tokens),
         Err(_) => String::from_str(alloc, "no tokens"),
     }
 }
 
 #[test]
 fn tokens_that_a_line_becomes(rt: HostRuntime) -> Result<(), Fail> {
-    let table: [(&str, &str, &str); 12] = [
+    let table: [(&str, &str, &str); 15] = [
         ("a name and a number", "=A 1 +\nA", " 2:1 2:+ 2:"),
         ("no macro", "A 1", " 1:A 1:1 1:"),
         ("a macro that names itself", "=A A B\nA", " 2:A 2:B 2:"),
@@ -166,6 +133,21 @@ fn tokens_that_a_line_becomes(rt: HostRuntime) -> Result<(), Fail> {
             "=A\n=B A\nB\n!A\nB",
             " 5:A 5:",
         ),
+        (
+            "three that name one another",
+            "=a b c\n=b c\n=c a\na b c",
+            " 4:a 4:a 4:b 4:c 4:c 4:c 4:",
+        ),
+        (
+            "a name that is expanded again, and hidden then",
+            "=a b\n=b c d\n=c 1\n=d a\nb a b",
+            " 5:1 5:b 5:1 5:a 5:1 5:b 5:",
+        ),
+        (
+            "what was kept holds no more after a definition",
+            "=a b\na\n=b 1\na\n!b\na",
+            " 2:b 4:1 6:b 6:",
+        ),
         ("undefined", "=A 1\n!A\nA", " 3:A 3:"),
         ("defined again", "=A 1\n!A\n=A 2\nA", " 4:2 4:"),
         ("the macro that is there at first", "__FILC__", " 1:1 1:"),
@@ -176,19 +158,8 @@ fn tokens_that_a_line_becomes(rt: HostRuntime) -> Result<(), Fail> {
         ),
     ];
     for (name, file, tokens) in table {
-        assert_eq!(rt; shown(rt.alloc(), file, 100)?.as_str(), tokens, "{name}");
+        assert_eq!(rt; shown(rt.alloc(), file)?.as_str(), tokens, "{name}");
     }
-    Ok(())
-}
-
-#[test]
-fn doubling_stops_at_the_room(rt: HostRuntime) -> Result<(), Fail> {
-    let file = "=a0 x\n=a1 a0 a0\n=a2 a1 a1\n=a3 a2 a2\na3";
-    assert_eq!(rt;
-        shown(rt.alloc(), file, 8)?.as_str(),
-        " 5:x 5:x 5:x 5:x 5:x 5:x 5:x 5:x 5:"
-    );
-    assert_eq!(rt; shown(rt.alloc(), file, 7)?.as_str(), " too many 5:");
     Ok(())
 }
 
@@ -200,7 +171,7 @@ fn sixty_macros_of_nothing_that_double(rt: HostRuntime) -> Result<(), Fail> {
         writeln!(file, "=e{next} e{i} e{i}")?;
     }
     file.push_str("e60 x")?;
-    assert_eq!(rt; shown(rt.alloc(), file.as_str(), 1)?.as_str(), " 62:x 62:");
+    assert_eq!(rt; shown(rt.alloc(), file.as_str())?.as_str(), " 62:x 62:");
     Ok(())
 }
 
@@ -213,39 +184,37 @@ fn chains_of_twenty_thousand_macros(rt: HostRuntime) -> Result<(), Fail> {
     }
     file.push_str("e20000 a20000")?;
     assert_eq!(rt;
-        shown(rt.alloc(), file.as_str(), 1)?.as_str(),
+        shown(rt.alloc(), file.as_str())?.as_str(),
         " 40003:x 40003:"
     );
     Ok(())
 }
 
 /// What the name of a macro becomes that is marked as the library's, on line 7.
-fn shown_from_library(
-    alloc: Global,
-    macros: &mut Macros,
-    line: &[Token],
-) -> Result<String, AllocError>
-    requires { IsTrue (macros_within 5 macros.old) }
-{
+fn shown_from_library(alloc: Global, file: &Tokens) -> Result<String, AllocError> {
     let mut shown = String::new(alloc);
-    if let [name, body @ .., _] = line {
+    if file.bytes.len() >= 1_000_000 {
+        return Ok(shown);
+    }
+    let mut macros = Macros::new(alloc, &file.bytes)?;
+    if let [name, body @ .., _] = file.list.as_slice() {
         let used = Token {
             library: true,
             line: 7,
             ..*name
         };
-        define(alloc, b"A 1 +", macros, name, body)?;
-        expand(alloc, b"A 1 +", macros, &[used], 2, &mut shown)?;
+        define(alloc, &mut macros, name, body)?;
+        expand(alloc, &mut macros, &[used], &mut shown)?;
     }
     Ok(shown)
 }
 
 #[test]
-fn the_library_mark_of_the_outermost_name(rt: HostRuntime) -> Result<(), Fail> {
-    let alloc = rt.alloc();
-    let file = lex(alloc, b"A 1 +").map_err(|_| "no tokens")?;
-    let mut macros = Macros::new(alloc, b"1234")?;
-    let shown = shown_from_library(alloc, &mut macros, &file.list)?;
-    assert_eq!(rt; shown.as_str(), " 7L:1 7L:+");
+fn the_library_flag_of_the_outermost_name(rt: HostRuntime) -> Result<(), Fail> {
+    let file = lex(rt.alloc(), b"A 1 +").map_err(|_| "no tokens")?;
+    assert_eq!(rt;
+        shown_from_library(rt.alloc(), &file)?.as_str(),
+        " 7L:1 7L:+"
+    );
     Ok(())
 }

@@ -3,17 +3,15 @@
 //! Each definition is an entry, and the index has the place of the newest entry of each name. An
 //! entry that the index does not lead to is not defined any more: nothing reads it again.
 
-ghost use Rattle.std.specs.Prelude.{◌≡◌, ◌∷◌, ◌++◌, ◌+◌, ◌<◌, ◌≤◌, ◌^◌, [], IsTrue, IfOk, OnErr, OnOk, None, length, not};
-ghost use Rattle.std.specs.List.{filter};
+ghost use Rattle.std.specs.Prelude.{◌≡◌, ◌∷◌, ◌++◌, ◌+◌, ◌<◌, ◌≤◌, ◌^◌, [], IfOk, OnErr, OnOk, None, length, vec_len};
 ghost use Rattle.std.specs.Option.{option_copied, option_map};
-ghost use Rattle.c_lexer.specs.List.{all_within};
-ghost use Rattle.c_preproc.specs.Texts.{same_text};
-ghost use Rattle.c_preproc.specs.Macros.{expansion_of_token, macro_of};
-ghost use Rattle.c_preproc.specs.Expansion.{filc_macro};
-ghost use Rattle.c_preproc.specs.Within.{macros_within};
-ghost use Rattle.c_preproc.specs.Walk.{IsExpansion};
+ghost use Rattle.c_preproc.specs.Expander.{Appends};
+ghost use Rattle.c_preproc.specs.Expansion.{filc_macro, is_defined, token_limit, with_digits};
+ghost use Rattle.c_preproc.specs.Macros.{Macro, expansion_of_token, macro_of, without};
+ghost use Rattle.c_preproc.specs.Texts.{text_of};
 
-use crate::expand::{Fit, Opened, run};
+use crate::expander::{Expander, Fit};
+use crate::texts::text_of;
 use c_lexer::{Token, TokenKind};
 use std::alloc::{AllocError, Global};
 use std::collections::BTreeMap;
@@ -31,13 +29,10 @@ pub struct Entry {
 pub struct Table {
     pub entries: Vec<Entry>,
     pub index: BTreeMap<Vec<u8>, usize>,
-    /// How many entries are defined.
-    pub count: usize,
 }
 
 impl Table {
-    ghost use Rattle.std.specs.Prelude.{◌≡◌, ◌∷◌, [], IsTrue, None, cond, length};
-    ghost use Rattle.c_lexer.specs.List.{all_within};
+    ghost use Rattle.std.specs.Prelude.{◌≡◌, None, cond};
     ghost use Rattle.c_preproc.specs.Texts.{is_name, text_of};
     ghost use Rattle.c_preproc.specs.Table.{place_of};
 
@@ -50,57 +45,62 @@ impl Table {
 
     /// The place of the entry that the token names.
     pub fn named(&self, bytes: &[u8], token: Token) -> Option<usize>
-        requires { IsTrue (all_within (length bytes.now) (token ∷ [])) }
         ensures { result ≡ cond (is_name token) (place_of self.now.index (text_of bytes.now token)) None }
     {
         if matches!(token.kind, TokenKind::Name) {
-            self.find(&bytes[token.start as usize..token.end as usize])
+            self.find(text_of(bytes, token))
         } else {
             None
         }
     }
 }
 
-/// The macros that are defined. Seen as a list of them, the newest first.
+/// The macros that are defined, and the bytes of which all tokens are slices: those of the file, and the
+/// 1 and the 0 that a `defined` stands for.
 #[derive(Drop)]
 pub struct Macros {
+    bytes: Vec<u8>,
     table: Table,
-    opened: Opened,
+    expander: Expander,
 }
 
 impl Model for Macros {
-    ghost use Rattle.std.specs.Prelude.{List};
-    ghost use Rattle.c_preproc.specs.Macros.{Macro};
-    ghost use Rattle.c_preproc.specs.Table.{IsTable, defined_of, place_of};
+    ghost use Rattle.c_preproc.specs.Macros.{Definitions};
+    ghost use Rattle.c_preproc.specs.Table.{place_of};
+    ghost use Rattle.c_preproc.specs.Defined.{IsDefined, definitions_of};
 
-    ghost Value = { List Macro };
+    ghost Value = { Definitions };
 
-    ghost view = { λ m. defined_of (place_of m.table.index) m.table.entries.items };
+    ghost view = { λ m. definitions_of m.bytes m.table };
 
-    ghost invariant = { λ m. IsTable (place_of m.table.index) m.table.entries.items m.table.count m.opened.seats.items m.opened.vanished.spots.items };
+    ghost invariant = { λ m. IsDefined m.bytes m.table m.expander };
 }
 
 impl Macros {
-    /// No macros.
-    fn empty(alloc: Global) -> Macros
-        ensures { result ≡ [] }
+    /// No macros, and these bytes.
+    fn empty(alloc: Global, bytes: Vec<u8>) -> Macros
+        requires digits { 2 ≤ vec_len bytes }
+        requires small { vec_len bytes < 2 ^ 32 }
+        ensures bytes { result.bytes ≡ bytes.items }
+        ensures macros { result.macros ≡ [] }
     {
         Macros {
+            bytes,
             table: Table {
                 entries: Vec::new(alloc),
                 index: BTreeMap::new(alloc),
-                count: 0,
             },
-            opened: Opened::new(alloc),
+            expander: Expander::new(alloc),
         }
     }
 
-    /// `__FILC__` alone, whose 1 is the byte behind these bytes.
-    pub fn new(alloc: Global, bytes: &[u8]) -> Result<Macros, AllocError>
-        requires { length bytes.now + 1 < 2 ^ 32 }
-        ensures { IfOk result (λ macros. macros ≡ filc_macro bytes.now ∷ []) }
+    /// `__FILC__` alone, which is 1.
+    pub fn new(alloc: Global, file: &[u8]) -> Result<Macros, AllocError>
+        requires { length file.now + 2 < 2 ^ 32 }
+        ensures bytes { IfOk result (λ macros. macros.bytes ≡ with_digits file.now) }
+        ensures macros { IfOk result (λ macros. macros.macros ≡ filc_macro file.now ∷ []) }
     {
-        let start = bytes.len() as u32;
+        let start = file.len() as u32;
         let one = Token {
             kind: TokenKind::Number,
             line: 0,
@@ -109,24 +109,51 @@ impl Macros {
             first: false,
             library: false,
         };
-        let mut macros = Macros::empty(alloc);
+        let mut bytes = Vec::from_slice(alloc, file)?;
+        bytes.push(b'1')?;
+        bytes.push(b'0')?;
+        let mut macros = Macros::empty(alloc, bytes);
         macros.define(alloc, b"__FILC__", &[one])?;
         Ok(macros)
     }
 
+    /// The bytes of which all tokens are slices.
+    pub fn bytes(&self) -> &[u8]
+        ensures bytes { result.now ≡ self.now.bytes }
+        ensures digits { 2 ≤ length self.now.bytes }
+        ensures small { length self.now.bytes < 2 ^ 32 }
+    {
+        self.bytes.as_slice()
+    }
+
+    /// The bytes alone.
+    pub fn into_bytes(self) -> Vec<u8>
+        ensures { result.items ≡ self.bytes }
+    {
+        self.bytes
+    }
+
     /// The tokens that the name stands for.
     pub fn body_of(&self, name: &[u8]) -> Option<&[Token]>
-        ensures { option_copied result ≡ option_map (λ macro. macro.body) (macro_of self.now name.now) }
+        ensures { option_copied result ≡ option_map (λ macro. macro.body) (macro_of self.now.macros name.now) }
     {
         let place = self.table.find(name)?;
         Some(self.table.entries[place].body.as_slice())
     }
 
+    /// Whether a macro has the name.
+    pub fn is_defined(&self, name: Token) -> bool
+        ensures { result ≡ is_defined self.now name }
+    {
+        self.body_of(text_of(&self.bytes, name)).is_some()
+    }
+
     /// Defines a macro that isn't defined.
-    pub fn define(&mut self, alloc: Global, name: &[u8], body: &[Token]) -> Result<(), AllocError>
-        requires { macro_of self.old name.now ≡ None }
-        ensures ok { OnOk result (self.new ≡ record { name = name.now; body = body.now } ∷ self.old) }
-        ensures err { OnErr result (self.new ≡ self.old) }
+    fn define(&mut self, alloc: Global, name: &[u8], body: &[Token]) -> Result<(), AllocError>
+        requires { macro_of self.old.macros name.now ≡ None }
+        ensures bytes { self.new.bytes ≡ self.old.bytes }
+        ensures ok { OnOk result (self.new.macros ≡ record { name = name.now; body = body.now } ∷ self.old.macros) }
+        ensures err { OnErr result (self.new.macros ≡ self.old.macros) }
     {
         let key = Vec::from_slice(alloc, name)?;
         let entry = Entry {
@@ -134,37 +161,43 @@ impl Macros {
             body: Vec::from_slice(alloc, body)?,
         };
         let place = self.table.entries.len();
-        self.opened.seats.push(0)?;
-        self.opened.vanished.spots.push(0)?;
+        self.expander.forget();
+        self.expander.grow()?;
         self.table.entries.push(entry)?;
         self.table.index.insert(key, place)?;
-        self.table.count += 1;
         Ok(())
     }
 
-    /// No macro has the name any more.
-    pub fn undefine(&mut self, name: &[u8])
-        ensures { self.new ≡ filter (λ macro. not (same_text macro.name name.now)) self.old }
+    /// Defines the macro of a token's name, which isn't defined.
+    pub fn define_name(
+        &mut self,
+        alloc: Global,
+        name: Token,
+        body: &[Token],
+    ) -> Result<(), AllocError>
+        requires { macro_of self.old.macros (text_of self.old.bytes name) ≡ None }
+        ensures bytes { self.new.bytes ≡ self.old.bytes }
+        ensures ok { OnOk result (self.new.macros ≡ record { name = text_of self.old.bytes name; body = body.now } ∷ self.old.macros) }
     {
-        if self.table.index.remove(name).is_some() {
-            self.table.count -= 1;
-        }
+        let name = Vec::from_slice(alloc, text_of(&self.bytes, name))?;
+        self.define(alloc, &name, body)
     }
 
-    /// Appends what the token expands to, if it is at most `room` tokens.
-    pub fn expand(
-        &mut self,
-        bytes: &[u8],
-        token: Token,
-        room: usize,
-        out: &mut Vec<Token>,
-    ) -> Result<Fit, AllocError>
-        requires token { IsTrue (all_within (length bytes.now) (token ∷ [])) }
-        requires bodies { IsTrue (macros_within (length bytes.now) self.old) }
-        ensures same { self.new ≡ self.old }
-        ensures room { length out.new.items ≤ length out.old.items + room }
-        ensures expansion { IfOk result (λ fit. IsExpansion fit room (expansion_of_token bytes.now self.old token) out.old.items out.new.items) }
+    /// No macro has the token's name any more.
+    pub fn undefine(&mut self, name: Token)
+        ensures bytes { self.new.bytes ≡ self.old.bytes }
+        ensures macros { self.new.macros ≡ without self.old.macros (text_of self.old.bytes name) }
     {
-        run(&self.table, bytes, &mut self.opened, token, room, out)
+        self.expander.forget();
+        let _ = self.table.index.remove(text_of(&self.bytes, name));
+    }
+
+    /// Appends what the token expands to, if the list isn't too long then.
+    pub fn expand(&mut self, token: Token, out: &mut Vec<Token>) -> Result<Fit, AllocError>
+        ensures same { self.new ≡ self.old }
+        ensures expansion { let more = expansion_of_token self.old.bytes self.old.macros token in
+            IfOk result (λ fit. Appends fit token_limit more out.old.items out.new.items) }
+    {
+        self.expander.expand(&self.table, &self.bytes, token, out)
     }
 }

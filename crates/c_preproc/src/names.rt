@@ -1,14 +1,12 @@
 //! Directives that define macros: `define` and `undef`.
 
-ghost use Rattle.std.specs.Prelude.{◌≡◌, ◌≢◌, ◌↔◌, ℕ, true, false, None, Ok, Err, IfErr, IfSome, IsOk, IsTrue, OnOk, length};
+ghost use Rattle.std.specs.Prelude.{◌≡◌, Ok, Err, MatchOption};
 ghost use Rattle.std.specs.Option.{option_map};
-ghost use Rattle.c_lexer.specs.List.{all_within};
-ghost use Rattle.c_preproc.specs.Expansion.{only_name, hash_line, has_parameters, defined_by, undefined_by};
+ghost use Rattle.c_preproc.specs.Expansion.{define, has_parameters, hash_line, only_name, or_directive, undefine};
 ghost use Rattle.c_preproc.specs.Macros.{macro_of};
+ghost use Rattle.c_preproc.specs.Outcomes.{Gives, and_then};
 ghost use Rattle.c_preproc.specs.Seen.{seen};
-ghost use Rattle.c_preproc.specs.Slices.{is_within};
-ghost use Rattle.c_preproc.specs.Texts.{same_tokens};
-ghost use Rattle.c_preproc.specs.Within.{macros_within};
+ghost use Rattle.c_preproc.specs.Texts.{same_tokens, text_of};
 
 use crate::fault::PreFault;
 use crate::macros::Macros;
@@ -19,8 +17,7 @@ use std::alloc::Global;
 
 /// Exactly one name.
 pub fn only_name(tokens: &[Token]) -> Option<Token>
-    ensures value { result ≡ only_name tokens.now }
-    ensures within { IfSome result (λ name. (size : ℕ) → IsTrue (all_within size tokens.now) → IsTrue (is_within size name)) }
+    ensures { result ≡ only_name tokens.now }
 {
     match *tokens {
         [name] if is_name(name) => Some(name),
@@ -30,7 +27,6 @@ pub fn only_name(tokens: &[Token]) -> Option<Token>
 
 /// The line of the first `#`, which has no place in a macro's tokens.
 fn hash_line(bytes: &[u8], tokens: &[Token]) -> Option<u32>
-    requires { IsTrue (all_within (length bytes.now) tokens.now) }
     ensures { result ≡ hash_line bytes.now tokens.now }
 {
     for token in tokens {
@@ -43,7 +39,6 @@ fn hash_line(bytes: &[u8], tokens: &[Token]) -> Option<u32>
 
 /// Whether a parenthesis stands directly behind the name, as of a macro with parameters.
 fn has_parameters(bytes: &[u8], name: Token, tokens: &[Token]) -> bool
-    requires { IsTrue (all_within (length bytes.now) tokens.now) }
     ensures { result ≡ has_parameters bytes.now name tokens.now }
 {
     match *tokens {
@@ -53,78 +48,56 @@ fn has_parameters(bytes: &[u8], name: Token, tokens: &[Token]) -> bool
 }
 
 /// Whether the macro of this name has these tokens, if there is one.
-fn is_same_body(bytes: &[u8], macros: &Macros, name: &[u8], body: &[Token]) -> Option<bool>
-    requires tokens { IsTrue (all_within (length bytes.now) body.now) }
-    requires bodies { IsTrue (macros_within (length bytes.now) macros.now) }
-    ensures { result ≡ option_map (λ old. same_tokens bytes.now old.body body.now) (macro_of macros.now name.now) }
+fn is_same_body(macros: &Macros, name: Token, body: &[Token]) -> Option<bool>
+    ensures { let bytes = macros.now.bytes in
+        result ≡ option_map (λ old. same_tokens bytes old.body body.now) (macro_of macros.now.macros (text_of bytes name)) }
 {
-    let old = macros.body_of(name)?;
+    let bytes = macros.bytes();
+    let old = macros.body_of(text_of(bytes, name))?;
     Some(are_same_tokens(bytes, old, body))
 }
 
-/// `define`: a second definition has the same tokens, and changes nothing.
-pub fn define(
-    alloc: Global,
-    bytes: &[u8],
-    state: &mut State,
-    line: u32,
-    tokens: &[Token],
-) -> Result<(), PreFault>
-    requires tokens { IsTrue (all_within (length bytes.now) tokens.now) }
-    requires bodies { IsTrue (macros_within (length bytes.now) state.old.macros) }
-    ensures ok { OnOk result (defined_by bytes.now line (seen state.old) tokens.now ≡ Ok (seen state.new)) }
-    ensures fault { IfErr result (λ fault. fault ≢ PreFault.NoMemory → defined_by bytes.now line (seen state.old) tokens.now ≡ Err fault) }
+/// No `#`, or the fault of its line.
+fn no_hash(hash: Option<u32>) -> Result<(), PreFault>
+    ensures clean { MatchOption hash (result ≡ Ok tt) (λ at. result ≡ Err (PreFault.Directive at)) }
 {
-    let Some((name, body)) = tokens.split_first() else {
-        return Err(PreFault::Directive(line));
-    };
-    let name = *name;
-    if !is_name(name) || has_parameters(bytes, name, body) {
-        return Err(PreFault::Directive(line));
-    }
-    let text = text_of(bytes, name);
-    let hash = hash_line(bytes, body);
-    match is_same_body(bytes, &state.macros, text, body) {
-        Some(same) => kept(line, same, hash),
-        None => {
-            if let Some(at) = hash {
-                return Err(PreFault::Directive(at));
-            }
-            state.macros.define(alloc, text, body)?;
-            Ok(())
-        }
-    }
-}
-
-/// A second definition, which has the same tokens or not, and a `#` on that line or not.
-fn kept(line: u32, same: bool, hash: Option<u32>) -> Result<(), PreFault>
-    ensures ok { IsOk result ↔ ((same ≡ true) × (hash ≡ None)) }
-    ensures differs { same ≡ false → result ≡ Err (PreFault.Directive line) }
-    ensures hash { same ≡ true → IfSome hash (λ at. result ≡ Err (PreFault.Directive at)) }
-{
-    if !same {
-        return Err(PreFault::Directive(line));
-    }
     match hash {
         Some(at) => Err(PreFault::Directive(at)),
         None => Ok(()),
     }
 }
 
+/// `define`: a second definition has the same tokens, and changes nothing.
+pub fn define(alloc: Global, state: &mut State, line: u32, tokens: &[Token]) -> Result<(), PreFault>
+    ensures { Gives (define line (seen state.old) tokens.now) (λ _. seen state.new) result }
+{
+    let Some((name, body)) = tokens.split_first() else {
+        return Err(PreFault::Directive(line));
+    };
+    let bytes = state.macros.bytes();
+    if !is_name(*name) || has_parameters(bytes, *name, body) {
+        return Err(PreFault::Directive(line));
+    }
+    let hash = hash_line(bytes, body);
+    match is_same_body(&state.macros, *name, body) {
+        Some(true) => no_hash(hash),
+        Some(false) => Err(PreFault::Directive(line)),
+        None => {
+            no_hash(hash)?;
+            state.macros.define_name(alloc, *name, body)?;
+            Ok(())
+        }
+    }
+}
+
 /// `undef`.
-pub fn undefine(
-    bytes: &[u8],
-    state: &mut State,
-    line: u32,
-    tokens: &[Token],
-) -> Result<(), PreFault>
-    requires { IsTrue (all_within (length bytes.now) tokens.now) }
-    ensures ok { OnOk result (undefined_by bytes.now line (seen state.old) (only_name tokens.now) ≡ Ok (seen state.new)) }
-    ensures fault { IfErr result (λ fault. undefined_by bytes.now line (seen state.old) (only_name tokens.now) ≡ Err fault) }
+pub fn undefine(state: &mut State, line: u32, tokens: &[Token]) -> Result<(), PreFault>
+    ensures { let old = seen state.old in
+        Gives (and_then (or_directive line (only_name tokens.now)) (λ name. Ok (undefine old name))) (λ _. seen state.new) result }
 {
     let Some(name) = only_name(tokens) else {
         return Err(PreFault::Directive(line));
     };
-    state.macros.undefine(text_of(bytes, name));
+    state.macros.undefine(name);
     Ok(())
 }

@@ -1,20 +1,25 @@
-//! What directives change: the macros that are defined, and the open `if`s.
+//! What directives change: the macros that are defined, the open `if`s, and the tokens so far.
 
 use crate::macros::Macros;
+use c_lexer::Token;
 
-/// An open `if`: whether it stands in an active group, whether its group is active now, and whether
-/// one of its groups was.
+/// The group that an open `if` is in.
 #[derive(Clone, Copy)]
-pub struct Group {
-    pub stands_active: bool,
-    pub active: bool,
-    pub had: bool,
+pub enum Group {
+    /// The `if` stands in a group that isn't active.
+    Outside,
+    /// No group was active so far.
+    Waiting,
+    /// The active one.
+    Active,
+    /// One after the active one.
+    Past,
 }
 
-/// The macros that are defined, the open `if`s, innermost last, and the number of tokens so far.
+/// The macros, the group of each open `if`, innermost last, and the tokens so far.
 #[derive(Drop)]
 pub struct State {
     pub macros: Macros,
     pub groups: Vec<Group>,
-    pub count: usize,
+    pub out: Vec<Token>,
 }

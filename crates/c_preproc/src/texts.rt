@@ -1,18 +1,17 @@
 //! Tokens by their texts.
 
-ghost use Rattle.std.specs.Prelude.{◌≡◌, length, IsTrue};
-ghost use Rattle.c_lexer.specs.List.{all_within};
+ghost use Rattle.std.specs.Prelude.{◌≡◌};
 ghost use Rattle.c_preproc.specs.Texts.{text_of, is_name, is_word, is_mark, number_of_kind, same_token, same_tokens};
-ghost use Rattle.c_preproc.specs.Slices.{is_within};
 
 use c_lexer::{Token, TokenKind};
 
 /// The bytes of a token.
 pub fn text_of(bytes: &[u8], token: Token) -> &[u8]
-    requires { IsTrue (is_within (length bytes.now) token) }
     ensures { result.now ≡ text_of bytes.now token }
 {
-    &bytes[token.start as usize..token.end as usize]
+    let end = bytes.len().min(token.end as usize);
+    let start = end.min(token.start as usize);
+    &bytes[start..end]
 }
 
 pub fn is_name(token: Token) -> bool
@@ -23,7 +22,6 @@ pub fn is_name(token: Token) -> bool
 
 /// Whether the token is this name.
 pub fn is_word(bytes: &[u8], token: Token, word: &[u8]) -> bool
-    requires { IsTrue (is_within (length bytes.now) token) }
     ensures { result ≡ is_word bytes.now token word.now }
 {
     is_name(token) && text_of(bytes, token) == word
@@ -31,7 +29,6 @@ pub fn is_word(bytes: &[u8], token: Token, word: &[u8]) -> bool
 
 /// Whether the token is this operator or separator.
 pub fn is_mark(bytes: &[u8], token: Token, mark: &[u8]) -> bool
-    requires { IsTrue (is_within (length bytes.now) token) }
     ensures { result ≡ is_mark bytes.now token mark.now }
 {
     matches!(token.kind, TokenKind::Punct) && text_of(bytes, token) == mark
@@ -51,8 +48,6 @@ fn number_of_kind(kind: TokenKind) -> u8
 }
 
 fn is_same_token(bytes: &[u8], a: Token, b: Token) -> bool
-    requires first { IsTrue (is_within (length bytes.now) a) }
-    requires second { IsTrue (is_within (length bytes.now) b) }
     ensures { result ≡ same_token bytes.now a b }
 {
     number_of_kind(a.kind) == number_of_kind(b.kind) && text_of(bytes, a) == text_of(bytes, b)
@@ -60,8 +55,6 @@ fn is_same_token(bytes: &[u8], a: Token, b: Token) -> bool
 
 /// Whether two lists are the same tokens, but for where they stand.
 pub fn are_same_tokens(bytes: &[u8], a: &[Token], b: &[Token]) -> bool
-    requires first { IsTrue (all_within (length bytes.now) a.now) }
-    requires second { IsTrue (all_within (length bytes.now) b.now) }
     ensures { result ≡ same_tokens bytes.now a.now b.now }
 {
     if a.len() != b.len() {

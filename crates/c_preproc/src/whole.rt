@@ -1,51 +1,45 @@
 //! The whole: the balance of the groups, then the directives and the tokens between them.
 
 ghost use Rattle.std.specs.Prelude.{◌≡◌, ◌≢◌, Some, Ok, Err, IfErr, IfOk};
-ghost use Rattle.c_preproc.specs.Expansion.{bytes_with_one, expansion_of, first_fault, line_of};
+ghost use Rattle.c_preproc.specs.Expansion.{with_digits, expansion_of, first_fault, line_of};
 
 use crate::carry::carry;
 use crate::fault::PreFault;
 use crate::groups::unbalanced_line;
+use crate::macros::Macros;
+use crate::state::State;
 use c_lexer::Tokens;
-use std::alloc::{AllocError, Global};
+use std::alloc::Global;
 
-/// The most bytes of a file, so that the place behind one byte more is a `u32`.
-const MOST_BYTES: usize = 4_294_967_294;
+/// The most bytes of a file, so that the place behind two bytes more is a `u32`.
+const MOST_BYTES: usize = 4_294_967_293;
 
 /// Expands a token list: carries out its directives in order, and expands macros in the other tokens.
 ///
-/// A fault is the first by its line, and of one line Unbalanced. More than 4,294,967,294 bytes are
+/// A fault is the first by its line, and of one line Unbalanced. More than 4,294,967,293 bytes are
 /// NoMemory. A macro's tokens take the line and the library mark of the name that they replace, and
 /// keep whether they are the first on their line. Memory is taken for the tokens, the macros, the
 /// `if`s that are open and the bytes once more, and while a condition is worked out for its tokens
 /// and its open parts.
 pub fn preprocess(alloc: Global, tokens: &Tokens) -> Result<Tokens, PreFault>
     ensures list { IfOk result (λ out. expansion_of tokens.now.bytes.items tokens.now.list.items ≡ Ok out.list.items) }
-    ensures bytes { IfOk result (λ out. out.bytes.items ≡ bytes_with_one tokens.now.bytes.items) }
+    ensures bytes { IfOk result (λ out. out.bytes.items ≡ with_digits tokens.now.bytes.items) }
     ensures fault { IfErr result (λ fault. fault ≢ PreFault.NoMemory → expansion_of tokens.now.bytes.items tokens.now.list.items ≡ Err fault) }
 {
     if tokens.bytes.len() > MOST_BYTES {
         return Err(PreFault::NoMemory);
     }
-    let bytes = bytes_with_one(alloc, &tokens.bytes)?;
-    let unbalanced = unbalanced_line(alloc, &bytes, &tokens.list)?;
-    let outcome = carry(alloc, &tokens.bytes, &bytes, &tokens.list);
-    match (outcome, unbalanced) {
-        (Ok(list), None) => Ok(Tokens { list, bytes }),
+    let macros = Macros::new(alloc, &tokens.bytes)?;
+    let unbalanced = unbalanced_line(alloc, macros.bytes(), &tokens.list)?;
+    match (carry(alloc, macros, &tokens.list), unbalanced) {
+        (Ok(State { macros, out, .. }), None) => Ok(Tokens {
+            list: out,
+            bytes: macros.into_bytes(),
+        }),
         (Ok(_), Some(line)) => Err(PreFault::Unbalanced(line)),
         (Err(fault), None) => Err(fault),
         (Err(fault), Some(line)) => Err(earlier_fault(line, fault)),
     }
-}
-
-/// The bytes of a file, and the 1 behind them that `__FILC__` stands for.
-fn bytes_with_one(alloc: Global, file: &[u8]) -> Result<Vec<u8>, AllocError>
-    ensures { IfOk result (λ bytes. bytes.items ≡ bytes_with_one file.now) }
-{
-    let mut bytes = Vec::new(alloc);
-    bytes.extend_from_slice(file)?;
-    bytes.push(b'1')?;
-    Ok(bytes)
 }
 
 fn line_of(fault: PreFault) -> u32

@@ -1,25 +1,24 @@
-use Rattle.std.proofs.Common.{◌∙◌, ap}
-use Rattle.c_preproc.specs.Expansion.{bytes_with_one}
-use Rattle.c_preproc.proofs.Ends.{within_more, result_within, result_ends}
+use Rattle.std.proofs.Common.{Ok, ◌∙◌, ap, sym, subst, IsTrue, length}
+use Rattle.c_lexer.specs.List.{all_within}
+use Rattle.c_preproc.specs.Expansion.{with_digits}
+use Rattle.c_preproc.specs.Seen.{seen}
+use Rattle.c_preproc.proofs.Ends.{from_first, result_bytes, result_ends, result_within}
 use Rattle.c_preproc.proofs.whole.preprocess.Goals as goal
-
-pub unbalanced_line-requires : goal.unbalanced_line-requires
-unbalanced_line-requires c =
-    let t = c.args.tokens.now in
-    rw (c.deref-2.ensures.value, c.deref-3.ensures.value)
-    (within_more t.bytes.items c.in_ok-bytes.bytes.items t.list.items (c.in_ok-bytes.ensures ∙ ap bytes_with_one c.deref.ensures.value) t.within)
-
-pub carry-outcome-requires-clause-within : goal.carry-outcome-requires-clause-within
-carry-outcome-requires-clause-within c =
-    let t = c.args.tokens.now in
-    rw (c.deref-5.ensures.value, c.deref-6.ensures.value)
-    (within_more t.bytes.items c.in_ok-bytes.bytes.items t.list.items (c.in_ok-bytes.ensures ∙ ap bytes_with_one c.deref.ensures.value) t.within)
 
 pub invariant_of-result : goal.invariant_of-result
 invariant_of-result c =
     let t = c.args.tokens.now in
-    let list = rw (c.in-Ok-None.is-0, c.deref-4.ensures.value, c.deref-5.ensures.value, c.deref-6.ensures.value) at c.carry-outcome.ensures.list in
+    let state = c.in-Ok-None.field-0-0 in
+    let told = from_first c.in_ok-macros.macros t.bytes.items c.deref.result.now t.list.items c.deref-3.result.now (Ok (seen state)) c.in_ok-macros.ensures.bytes c.in_ok-macros.ensures.macros c.deref.ensures.value c.deref-3.ensures.value c.in-Ok-None.ensures in
+    let bytes = result_bytes t.bytes.items t.list.items (seen state) told in
     record {
-      within = result_within t.bytes.items c.in_ok-bytes.bytes.items t.list.items c.in-Ok-None.list.items (c.in_ok-bytes.ensures ∙ ap bytes_with_one c.deref.ensures.value) t.within list;
-      ends = result_ends t.bytes.items c.in_ok-bytes.bytes.items t.list.items c.in-Ok-None.list.items t.ends list;
+      within = subst (λ bs. IsTrue (all_within (length bs) state.out.items)) (sym (c.into_bytes.ensures ∙ bytes)) (result_within t.bytes.items t.list.items (seen state) t.within told);
+      ends = result_ends t.bytes.items t.list.items (seen state) t.ends told;
     }
+
+pub returns-in-Ok-None-clause-bytes : goal.returns-in-Ok-None-clause-bytes
+returns-in-Ok-None-clause-bytes c =
+    let t = c.args.tokens.now in
+    let state = c.in-Ok-None.field-0-0 in
+    let told = from_first c.in_ok-macros.macros t.bytes.items c.deref.result.now t.list.items c.deref-3.result.now (Ok (seen state)) c.in_ok-macros.ensures.bytes c.in_ok-macros.ensures.macros c.deref.ensures.value c.deref-3.ensures.value c.in-Ok-None.ensures in
+    c.into_bytes.ensures ∙ result_bytes t.bytes.items t.list.items (seen state) told

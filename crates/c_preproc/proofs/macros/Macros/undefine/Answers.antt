@@ -1,34 +1,27 @@
-use Rattle.std.proofs.Common.{sym, ap, ◌∙◌, arith, None, not, filter}
-use Rattle.c_preproc.specs.Texts.{same_text}
+use Rattle.std.proofs.Common.{None, length, ◌∙◌, ap, arith, sym}
+use Rattle.c_preproc.specs.Expander.{setting_of}
+use Rattle.c_preproc.specs.Macros.{without}
 use Rattle.c_preproc.specs.Table.{place_of}
-use Rattle.c_preproc.proofs.MacroTable.{changed_by, defined_less, less_one, table_less, some_of}
+use Rattle.c_preproc.specs.Texts.{text_of}
+use Rattle.c_preproc.proofs.MacroTable.{changed_by, defined_less, indexed_less, store_empty}
 use Rattle.c_preproc.proofs.macros.Macros.undefine.Goals as goal
-
-pub overflow_sub-self : goal.overflow_sub-self
-overflow_sub-self c =
-    let m = c.self.inside in
-    let changes = changed_by m.table.index c.remove.new.self c.args.name.now None c.remove.ensures.updates in
-    let found = some_of c.remove.result c.if-is_some.ensures in
-    let one = less_one (place_of m.table.index) m.table.entries.items m.table.count m.opened.seats.items m.opened.vanished.spots.items c.self.invariant (place_of c.remove.new.self) c.args.name.now changes found.0 (sym c.remove.ensures.value ∙ found.1) in
-    omega arith
 
 pub invariant_of-self : goal.invariant_of-self
 invariant_of-self c =
     let m = c.self.inside in
-    let changes = changed_by m.table.index c.remove.new.self c.args.name.now None c.remove.ensures.updates in
-    let found = some_of c.remove.result c.if-is_some.ensures in
-    table_less (place_of m.table.index) m.table.entries.items m.table.count m.opened.seats.items m.opened.vanished.spots.items c.self.invariant (place_of c.remove.new.self) c.args.name.now changes found.0 (sym c.remove.ensures.value ∙ found.1)
+    let changes = changed_by m.table.index c.remove.new.self c.text_of.result.now None c.remove.ensures.updates in
+    record {
+      indexed = indexed_less (place_of m.table.index) m.table.entries.items c.self.invariant.indexed (place_of c.remove.new.self) c.text_of.result.now changes;
+      digits = c.self.invariant.digits;
+      small = c.self.invariant.small;
+      store = store_empty (setting_of m.bytes.items (record { entries = m.table.entries; index = c.remove.new.self })) c.forget.new.self
+          (omega (arith, c.self.invariant.store.seats, ap length c.forget.ensures.seats)) (omega (arith, c.self.invariant.store.spots, ap length c.forget.ensures.spots)) c.forget.ensures.kept;
+    }
 
-pub returns-then-is_some : goal.returns-then-is_some
-returns-then-is_some c =
+pub returns-clause-macros : goal.returns-clause-macros
+returns-clause-macros c =
     let m = c.self.inside in
-    let changes = changed_by m.table.index c.remove.new.self c.args.name.now None c.remove.ensures.updates in
-    defined_less (place_of m.table.index) m.table.entries.items m.table.count m.opened.seats.items m.opened.vanished.spots.items c.self.invariant (place_of c.remove.new.self) c.args.name.now changes
-    ∙ ap (filter (λ macro. not (same_text macro.name c.args.name.now))) c.self.view_is
-
-pub returns-else-is_some : goal.returns-else-is_some
-returns-else-is_some c =
-    let m = c.self.inside in
-    let changes = changed_by m.table.index c.remove.new.self c.args.name.now None c.remove.ensures.updates in
-    defined_less (place_of m.table.index) m.table.entries.items m.table.count m.opened.seats.items m.opened.vanished.spots.items c.self.invariant (place_of c.remove.new.self) c.args.name.now changes
-    ∙ ap (filter (λ macro. not (same_text macro.name c.args.name.now))) c.self.view_is
+    let changes = changed_by m.table.index c.remove.new.self c.text_of.result.now None c.remove.ensures.updates in
+    defined_less (place_of m.table.index) m.table.entries.items c.self.invariant.indexed (place_of c.remove.new.self) c.text_of.result.now changes
+    ∙ ap (λ macros. without macros c.text_of.result.now) (ap (λ d. d.macros) c.self.view_is)
+    ∙ ap (without c.args.self.now.macros) (c.text_of.ensures ∙ ap (λ bytes. text_of bytes c.args.name) (c.deref.ensures.value ∙ ap (λ d. d.bytes) c.self.view_is))
