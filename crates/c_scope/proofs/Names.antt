@@ -1,6 +1,6 @@
 -- A change of the tree at one name.
 use Rattle.std.proofs.Common.{◌≡◌, ◌≢◌, ℕ, Bool, true, false, List, [], Option, Some, None, refl, sym, ap, ◌∙◌, ⊎_elim, Vec, Result, Ok, Err}
-use Rattle.std.specs.Result.{is_err, OnOk}
+use Rattle.std.specs.Result.{is_err, OnOk, OnErr}
 use Rattle.std.specs.declared.alloc.Global.{Global}
 use Rattle.std.specs.Option.{option_flatten, IsSome}
 use Rattle.std.specs.BTreeMap as tree
@@ -58,3 +58,7 @@ nowhere index none name = ap (λ (es : List (Vec ℕ Global × Option ℕ)). opt
 pub on_ok : {T E : Type 0} (r : Result T E) (P : Type 0) → is_err r ≡ false → OnOk r P → P
 on_ok (Ok x) P e h = h
 on_ok (Err x) P e h = cc
+
+pub on_err : {T E : Type 0} (r : Result T E) (P : Type 0) → is_err r ≡ true → OnErr r P → P
+on_err (Ok x) P e h = cc
+on_err (Err x) P e h = h

@@ -9,7 +9,7 @@ use Rattle.std.proofs.Math.ListN.{length-drop}
 use Rattle.std.proofs.Math.Nat.{sub-zero}
 use Rattle.std.proofs.Math.Seq.{take-length}
 use Rattle.c_scope.specs.declared.blocks.Declaration.{Declaration}
-use Rattle.c_scope.specs.Blocks.{declared_in, visible, innermost, outer_blocks, with_declaration}
+use Rattle.c_scope.specs.Blocks.{declared_in, visible, innermost, outer_blocks, with_declaration, without_newest}
 use Rattle.c_scope.specs.Stacks.{named, newest_of, Remembers, StartWithin, blocks_of, IsIndexed, IsStack, Changes}
 use Rattle.c_scope.proofs.Names.{same_name, names_differ}
 
@@ -385,3 +385,42 @@ last_start starts last h = ap (λ o. unwrap_or o 0) h ∙ by (reverse starts) re
 pub no_elements : {A : Type 0} (xs : List A) → length xs ≡ 0 → xs ≡ []
 no_elements [] h = refl
 no_elements (x ∷ xs) h = absurd (omega arith)
+
+-- ---- the newest declaration is taken back
+
+taken_back : (starts : List ℕ) (stack : List Declaration) → StartWithin (length stack) starts → 0 < length (innermost (blocks_of starts stack)) → (0 < length stack) × StartWithin (length (drop 1 stack)) starts × (blocks_of starts (drop 1 stack) ≡ without_newest (blocks_of starts stack))
+unfolding blocks_of StartWithin
+taken_back [] [] within some = absurd (omega arith)
+taken_back [] (d ∷ older) within some = (omega arith, tt, refl)
+taken_back (start ∷ starts) [] within some = absurd (no_more some)
+  where
+    no_more : 0 < length (map named (take (0 - start) [])) → ⊥
+    no_more h = by (0 - start) h
+      where
+        by : (k : ℕ) → 0 < length (map named (take k [])) → ⊥
+        by zero g = omega arith
+        by (suc k) g = omega arith
+taken_back (start ∷ starts) (d ∷ older) within some = by (suc (length older) - start) refl some
+  where
+    by : (k : ℕ) → suc (length older) - start ≡ k → 0 < length (map named (take k (d ∷ older))) → (0 < suc (length older)) × ((start ≤ length older) × StartWithin start starts) × ((map named (take (length older - start) older) ∷ blocks_of starts (drop (length older - start) older)) ≡ without_newest (map named (take (suc (length older) - start) (d ∷ older)) ∷ blocks_of starts (drop (suc (length older) - start) (d ∷ older))))
+    by zero e g = absurd (omega arith)
+    by (suc k) e g =
+        let less : start ≤ length older = omega arith in
+        let more : suc (length older) - start ≡ suc (length older - start) = omega arith in
+        (omega arith, (less, within.1), rw more refl)
+
+module _ (starts : List ℕ) (declarations : List Declaration) (places : List ℕ → Option ℕ) (ok : IsStack places (reverse declarations) (reverse starts)) (some : 0 < length (innermost (blocks_of (reverse starts) (reverse declarations)))) where
+  pub take_back_some : 0 < length declarations
+  take_back_some =
+      let t = taken_back (reverse starts) (reverse declarations) ok.within some in
+      omega (arith, t.0, length-reverse declarations)
+
+  pub take_back_stack : (new : List ℕ → Option ℕ) (rest : List Declaration) → IsIndexed new (reverse rest) → reverse rest ≡ drop 1 (reverse declarations) → IsStack new (reverse rest) (reverse starts)
+  take_back_stack new rest indexed gone =
+      let t = taken_back (reverse starts) (reverse declarations) ok.within some in
+      record { indexed = indexed; within = subst (λ (xs : List Declaration). StartWithin (length xs) (reverse starts)) (sym gone) t.1 }
+
+  pub take_back_blocks : (rest : List Declaration) → reverse rest ≡ drop 1 (reverse declarations) → blocks_of (reverse starts) (reverse rest) ≡ without_newest (blocks_of (reverse starts) (reverse declarations))
+  take_back_blocks rest gone =
+      let t = taken_back (reverse starts) (reverse declarations) ok.within some in
+      ap (blocks_of (reverse starts)) gone ∙ t.2

@@ -36,3 +36,8 @@ outer_blocks (block ∷ outer) = outer
 abbrev pub with_declaration : Named → List (List Named) → List (List Named)
 with_declaration d [] = (d ∷ []) ∷ []
 with_declaration d (block ∷ outer) = (d ∷ block) ∷ outer
+
+-- without the newest declaration of the innermost block
+abbrev pub without_newest : List (List Named) → List (List Named)
+without_newest ((d ∷ block) ∷ outer) = block ∷ outer
+without_newest blocks = blocks

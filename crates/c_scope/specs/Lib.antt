@@ -1,2 +1,5 @@
 pub mod Blocks
+pub mod Again
+pub mod Pairs
+pub mod Scopes
 pub mod Stacks

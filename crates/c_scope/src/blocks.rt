@@ -54,7 +54,7 @@ impl Model for Blocks {
 impl Blocks {
     ghost use Rattle.std.specs.Prelude.{◌≡◌, ◌<◌, [], ◌∷◌, length, OnOk, OnErr};
     ghost use Rattle.std.specs.Option.{option_copied};
-    ghost use Rattle.c_scope.specs.Blocks.{declared_in, visible, innermost, outer_blocks, with_declaration};
+    ghost use Rattle.c_scope.specs.Blocks.{declared_in, visible, innermost, outer_blocks, with_declaration, without_newest};
 
     /// The file's block alone, without declarations.
     pub fn new(alloc: Global) -> Blocks
@@ -105,6 +105,14 @@ impl Blocks {
         if let Some(start) = self.starts.pop() {
             forget_from(&mut self.declarations, &mut self.newest, start);
         }
+    }
+
+    /// Takes the newest declaration of the innermost block back.
+    pub fn take_back(&mut self)
+        requires { 0 < length (innermost self.old) }
+        ensures { self.new ≡ without_newest self.old }
+    {
+        forget(&mut self.declarations, &mut self.newest);
     }
 
     /// Adds a declaration to the innermost block.

@@ -1,8 +1,16 @@
-//! Names and what they stand for, by blocks.
+//! Names and what they stand for: two name spaces, blocks and linkage.
 //!
-//! Read `specs/Blocks.antt` first, which says what is visible.
+//! Read `specs/Blocks.antt` first, which says what is visible, then `specs/Again.antt`, which says which
+//! declarations of one name may stand together, and `specs/Scopes.antt`.
 #![tactic(auto)]
 
+mod again;
 mod blocks;
+mod scopes;
+mod space;
 
-pub use blocks::Blocks;
+pub use scopes::Scopes;
+pub use space::{DeclareFault, Space, Unknown};
+
+#[cfg(test)]
+mod tests;

@@ -1,0 +1,142 @@
+//! The scopes of a file: two name spaces, blocks, and the names with linkage.
+
+ghost use Rattle.std.specs.Prelude.{◌≡◌, ◌<◌, length, OnOk, IfErr};
+ghost use Rattle.c_scope.specs.Blocks.{with_declaration};
+ghost use Rattle.c_scope.specs.Scopes.{with_linked};
+
+use crate::again::{declaration, has_its_linkage};
+use crate::blocks::Blocks;
+use crate::space::{DeclareFault, Space, Unknown};
+use std::alloc::{AllocError, Global};
+use std::marker::Model;
+use typed_tree::Declared;
+
+/// What names stand for where the checker is: in the open blocks, and as the declarations with linkage have
+/// it, also those of blocks that were left.
+#[derive(Drop)]
+pub struct Scopes {
+    ordinary: Blocks,
+    tags: Blocks,
+    linked: Blocks,
+}
+
+impl Model for Scopes {
+    ghost use Rattle.c_scope.specs.Pairs.{IsPaired};
+    ghost use Rattle.c_scope.specs.Scopes.{Names};
+
+    ghost Value = { Names };
+
+    ghost view = { λ s. record { ordinary = s.ordinary; tags = s.tags; linked = s.linked } };
+
+    ghost invariant = { λ s. IsPaired s.ordinary s.tags };
+}
+
+impl Scopes {
+    ghost use Rattle.std.specs.Prelude.{◌≡◌, ◌<◌, length, Some, None, Ok, Err, IfOk, OnOk, OnErr, IsSomeAnd};
+    ghost use Rattle.std.specs.Option.{option_copied};
+    ghost use Rattle.c_scope.specs.Blocks.{visible, declared_in, innermost};
+    ghost use Rattle.c_scope.specs.Scopes.{no_names, entered, left, blocks_in, declaration_in, with_name};
+
+    /// The file's scope, without names.
+    pub fn new(alloc: Global) -> Result<Scopes, AllocError>
+        ensures { IfOk result (λ scopes. scopes ≡ no_names) }
+    {
+        Ok(Scopes {
+            ordinary: Blocks::new(alloc),
+            tags: Blocks::new(alloc),
+            linked: Blocks::new(alloc),
+        })
+    }
+
+    /// Opens a block.
+    pub fn enter(&mut self) -> Result<(), AllocError>
+        ensures ok { OnOk result (self.new ≡ entered self.old) }
+        ensures err { OnErr result (self.new ≡ self.old) }
+    {
+        self.ordinary.enter()?;
+        if self.tags.enter().is_err() {
+            self.ordinary.leave();
+            return Err(AllocError);
+        }
+        Ok(())
+    }
+
+    /// Closes the innermost block, which isn't the file's.
+    pub fn leave(&mut self)
+        requires { 1 < length self.old.ordinary }
+        ensures { self.new ≡ left self.old }
+    {
+        self.ordinary.leave();
+        self.tags.leave();
+    }
+
+    /// What a name stands for, as the innermost block that declares it has it.
+    pub fn look_up(&self, space: Space, name: &[u8]) -> Result<&Declared, Unknown>
+        ensures found { IfOk result
+            (λ d. visible name.now (blocks_in space self.now) ≡ Some d.now) }
+        ensures unknown { OnErr result (visible name.now (blocks_in space self.now) ≡ None) }
+    {
+        self.blocks(space).find(name).ok_or(Unknown)
+    }
+
+    /// What a name stands for, where the innermost block declares it.
+    pub fn look_up_here(&self, space: Space, name: &[u8]) -> Option<&Declared>
+        ensures { option_copied result
+            ≡ declared_in name.now (innermost (blocks_in space self.now)) }
+    {
+        self.blocks(space).find_here(name)
+    }
+
+    fn blocks(&self, space: Space) -> &Blocks
+        ensures { result.now ≡ blocks_in space self.now }
+    {
+        match space {
+            Space::Ordinary => &self.ordinary,
+            Space::Tag => &self.tags,
+        }
+    }
+
+    /// Declares a name in the innermost block. A refusal changes nothing.
+    pub fn declare(&mut self, space: Space, name: &[u8], what: Declared) -> Result<(), DeclareFault>
+        ensures ok { OnOk result (IsSomeAnd (declaration_in self.old space name.now what)
+            (λ d. self.new ≡ with_name space (record { name = name.now; what = d }) self.old)) }
+        ensures again { result ≡ Err DeclareFault.Again
+            → declaration_in self.old space name.now what ≡ None }
+        ensures err { OnErr result (self.new ≡ self.old) }
+    {
+        let here = self.look_up_here(space, name).copied();
+        let linked = self.linked.find(name).copied();
+        let Some(declared) = declaration(here, linked, what) else {
+            return Err(DeclareFault::Again);
+        };
+        match space {
+            Space::Ordinary => declare_linked(&mut self.ordinary, &mut self.linked, name, declared),
+            Space::Tag => declare_linked(&mut self.tags, &mut self.linked, name, declared),
+        }
+    }
+}
+
+/// Declares a name in the innermost of these blocks, and as what its declarations with linkage declare.
+fn declare_linked(
+    blocks: &mut Blocks,
+    linked: &mut Blocks,
+    name: &[u8],
+    declared: Declared,
+) -> Result<(), DeclareFault>
+    requires { 0 < length blocks.old }
+    ensures blocks { OnOk result
+        (blocks.new ≡ with_declaration (record { name = name.now; what = declared }) blocks.old) }
+    ensures linked { OnOk result
+        (linked.new ≡ with_linked (record { name = name.now; what = declared }) linked.old) }
+    ensures err { IfErr result
+        (λ fault. (fault ≡ DeclareFault.NoMemory) × (blocks.new ≡ blocks.old) × (linked.new ≡ linked.old)) }
+{
+    if blocks.declare(name, declared).is_err() {
+        return Err(DeclareFault::NoMemory);
+    }
+    if has_its_linkage(declared) && linked.declare(name, declared).is_err() {
+        blocks.take_back();
+        return Err(DeclareFault::NoMemory);
+    }
+    Ok(())
+}
