@@ -3,3 +3,4 @@ pub mod Layings
 pub mod LayoutsHold
 pub mod Orders
 pub mod Numberings
+pub mod Deriving

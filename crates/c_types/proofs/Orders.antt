@@ -86,3 +86,9 @@ same_entry (Parameters a x) (Parameters b y) h =
     let parts = both (nat_cmp a b) (nat_cmp x y) h in
     ap (λ (n : ℕ). Parameters n x) (same_number a b parts.0) ∙ ap (Parameters b) (same_number x y parts.1)
 same_entry _ _ h = cc
+
+-- arrays with the same parts are one
+pub array_by_parts : (a b : Array) → a.element ≡ b.element → a.extent.size ≡ b.extent.size → a.extent.align ≡ b.extent.align → a.count ≡ b.count → a ≡ b
+array_by_parts a b element size align count =
+    let extent : a.extent ≡ b.extent = values_one ExtentType.struct ExtentType.the_propositions a.extent b.extent cc in
+    values_one ArrayType.struct (ArrayType.the_propositions (PartType.the_row).coded (ExtentType.the_row).coded) a b cc

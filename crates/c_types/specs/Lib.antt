@@ -6,3 +6,5 @@ pub mod Placements
 pub mod LayoutLaws
 pub mod Qualifiers
 pub mod Tables
+pub mod Derivations
+pub mod Declarators

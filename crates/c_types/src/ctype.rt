@@ -43,6 +43,13 @@ impl Part {
     }
 }
 
+/// How many elements an array has: one at least.
+#[derive(Clone, Copy, Debug, PartialEq, Eq)]
+pub struct ElementCount {
+    pub value: u64,
+    pub ghost some: { 0 < value },
+}
+
 /// An array: its element, whose type is complete, and how many of them there are.
 #[derive(Clone, Copy, Debug, PartialEq, Eq, PartialOrd, Ord)]
 pub struct Array {

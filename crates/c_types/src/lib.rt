@@ -5,6 +5,8 @@
 #![tactic(auto)]
 
 mod ctype;
+mod derivation;
+mod derive;
 mod entry;
 pub mod laws;
 mod layouts;
@@ -13,7 +15,10 @@ mod qualifier_set;
 mod sizes;
 mod table;
 
-pub use ctype::{Array, CType, Extent, MOST_OBJECT_BYTES, Part, Signature, TypeFault};
+pub use ctype::{
+    Array, CType, ElementCount, Extent, MOST_OBJECT_BYTES, Part, Signature, TypeFault,
+};
+pub use derivation::{Derivation, DeriveFault, Shape};
 pub use entry::{Entry, Tag};
 pub use layouts::{Form, Layout, LayoutFault};
 pub use members::{layout, union_layout};
@@ -21,5 +26,7 @@ pub use qualifier_set::Qualifiers;
 pub use sizes::{align_of, extent_of, size_of};
 pub use table::Types;
 
+#[cfg(test)]
+mod declarator_tests;
 #[cfg(test)]
 mod tests;

@@ -1,0 +1,30 @@
+-- A declarator whose derivations break no rule breaks none on the way.
+use Rattle.std.proofs.Common.{length, drop, ◌∷◌, ◌+◌, ◌≤◌, subst, arith}
+use Rattle.std.proofs.Math.ListN.{drop_of_length-le}
+use Rattle.c_types.proofs.Deriving.{IsDeriving, Keeps-trans, left_at, no_fault, derive-step, derive-ends}
+use Rattle.c_types.proofs.table.Types.derive_all.Goals as goal
+use Rattle.c_types.proofs.table.Types.derive_all.Goals.{After-derive}
+
+-- before a step: what is left is the derivation there and those behind it
+before : (c : After-derive) → IsDeriving c.args.self.now c.loop-derivation.self c.args.base c.loop-derivation.part c.args.derivations.now (c.derivation-item.result ∷ drop (c.loop-derivation.derivation-index + 1) c.args.derivations.now)
+before c =
+    subst (IsDeriving c.args.self.now c.loop-derivation.self c.args.base c.loop-derivation.part c.args.derivations.now)
+    (left_at c.args.derivations.now c.loop-derivation.derivation-index c.derivation-item.result (omega arith) c.derivation-item.is) c.loop-derivation.invariant
+
+pub loop-derivation-preserved : goal.loop-derivation-preserved
+loop-derivation-preserved c =
+    derive-step c.args.self.now c.loop-derivation.self c.derive.new.self c.args.base c.loop-derivation.part c.in-Ok.next c.args.derivations.now _ c.derivation-item.result
+    (before (goal.at.loop-derivation-preserved c).After-derive) c.derive.ensures.kept c.in-Ok.ensures.fine c.in-Ok.ensures.made
+
+pub returns-in-Err-clause-fault : goal.returns-in-Err-clause-fault
+returns-in-Err-clause-fault c = λ other.
+    absurd (no_fault _ c.derivation-item.result _ c.in-Err.fault (before (goal.at.returns-in-Err-clause-fault c).After-derive).fine (c.in-Err.ensures.fault other))
+
+pub returns-in-Err-clause-kept : goal.returns-in-Err-clause-kept
+returns-in-Err-clause-kept c = Keeps-trans c.args.self.now c.loop-derivation.self c.derive.new.self c.loop-derivation.invariant.kept c.derive.ensures.kept
+
+pub returns-clause-made : goal.returns-clause-made
+returns-clause-made c =
+    let past : length c.args.derivations.now ≤ c.loop-derivation.derivation-index = omega (arith, c.loop-derivation-test.false) in
+    derive-ends c.args.self.now c.loop-derivation.self c.args.base c.loop-derivation.part c.args.derivations.now
+    (subst (IsDeriving c.args.self.now c.loop-derivation.self c.args.base c.loop-derivation.part c.args.derivations.now) (drop_of_length-le c.args.derivations.now past) c.loop-derivation.invariant)

@@ -1,0 +1,28 @@
+-- The type at the index stands before those behind it.
+use Rattle.std.proofs.Common.{◌≡◌, ◌+◌, ◌-◌, ◌∷◌, ℕ, List, get_or, drop, subst, sym, arith}
+use Rattle.std.proofs.Math.Seq.{drop-length}
+use Rattle.c_types.specs.Declarators.{IsParameterList}
+use Rattle.c_types.proofs.Deriving.{Keeps-table, Keeps-trans, IsParameterList-keeps, left_with}
+use Rattle.c_types.proofs.table.Types.parameter_list.Goals as goal
+
+pub loop-index-init : goal.loop-index-init
+unfolding IsParameterList
+loop-index-init c = (
+  Keeps-table c.args.self.now c.number_of.new.self _ c.number_of.ensures.table,
+  subst (λ (xs : List ℕ). IsParameterList c.number_of.new.self xs c.in_ok-list.list) (sym (drop-length c.args.types.now)) c.in_ok-list.ensures.number,
+)
+
+pub loop-index-preserved : goal.loop-index-preserved
+unfolding IsParameterList
+loop-index-preserved c =
+    let types = c.args.types.now in
+    let i = c.loop-index.index - 1 in
+    let t = c.loop-index.self in
+    let t' = c.number_of-in-loop-index.new.self in
+    let kept = Keeps-table t t' _ c.number_of-in-loop-index.ensures.table in
+    let next : i + 1 ≡ c.loop-index.index = omega arith in
+    let rest : IsParameterList t (drop (i + 1) types) c.loop-index.list = subst (λ n. IsParameterList t (drop n types) c.loop-index.list) (sym next) c.loop-index.invariant.1 in
+    let list : IsParameterList t' (get_or types i 0 ∷ drop (i + 1) types) c.in_ok-list-2.list = (c.loop-index.list, c.in_ok-list-2.ensures.number, IsParameterList-keeps t t' (drop (i + 1) types) c.loop-index.list kept rest) in (
+      Keeps-trans c.args.self.now t t' c.loop-index.invariant.0 kept,
+      subst (λ (xs : List ℕ). IsParameterList t' xs c.in_ok-list-2.list) (sym (left_with types i 0 (omega arith))) list,
+    )

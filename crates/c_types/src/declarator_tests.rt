@@ -1,0 +1,256 @@
+//! Types of declarators worked out by hand, and declarators as long as a file allows.
+
+ghost use Rattle.std.specs.Prelude.{◌↔◌, IsTrue, IsSomeAnd, slice_get};
+ghost use Rattle.c_types.specs.Declarators.{IsTypeEntry};
+
+use super::*;
+use bitflags::Flags;
+use filc_num::CIntType;
+use std::test::Fail;
+
+/// A part without qualifiers.
+fn plain(number: u32) -> Part {
+    Part {
+        number,
+        qualifiers: Qualifiers::empty(),
+    }
+}
+
+fn pointer() -> Derivation {
+    Derivation::Pointer(Qualifiers::empty())
+}
+
+fn array(count: u64) -> Derivation {
+    match count {
+        0 => pointer(),
+        _ => Derivation::Array(ElementCount { value: count }),
+    }
+}
+
+fn function(parameters: u32) -> Derivation {
+    Derivation::Function {
+        parameters,
+        more: false,
+    }
+}
+
+/// Why a declarator over a base type has no type, or what its type is.
+fn outcome(
+    rt: &HostRuntime,
+    base: CType,
+    derivations: &[Derivation],
+) -> Result<Option<Entry>, DeriveFault> {
+    let mut types = Types::new(rt.alloc());
+    let number = match base {
+        CType::Structure(..) | CType::Union(..) | CType::Enumeration(_) => {
+            types.declare(Tag::Structure)
+        }
+        _ => types.number_of(Entry::OfType(base)),
+    };
+    let Ok(number) = number else {
+        return Err(DeriveFault::NoMemory);
+    };
+    if !is_type(&types, plain(number)) {
+        return Err(DeriveFault::NoMemory);
+    }
+    let part = types.derive_all(plain(number), derivations)?;
+    Ok(types.get(part.number))
+}
+
+#[test]
+fn faults_of_declarators(rt: HostRuntime) {
+    let int = CType::Integer(CIntType::Int);
+    let rows = [
+        (
+            "void a[2]",
+            CType::Void,
+            [array(2), pointer(), pointer()],
+            DeriveFault::Incomplete,
+        ),
+        (
+            "int f(void)[2]",
+            int,
+            [array(2), function(0), pointer()],
+            DeriveFault::BadResult,
+        ),
+        (
+            "int a[2](void)",
+            int,
+            [function(0), array(2), pointer()],
+            DeriveFault::Incomplete,
+        ),
+        (
+            "int a[131073]",
+            int,
+            [array(131_073), pointer(), pointer()],
+            DeriveFault::TooLarge,
+        ),
+        (
+            "int a[2](void)[2], the first reason counts",
+            int,
+            [array(2), function(0), array(2)],
+            DeriveFault::Incomplete,
+        ),
+        (
+            "int f(void)[131073]",
+            int,
+            [array(131_073), function(0), pointer()],
+            DeriveFault::TooLarge,
+        ),
+        (
+            "struct s f(void)",
+            CType::Structure(0, None),
+            [function(0), pointer(), pointer()],
+            DeriveFault::BadResult,
+        ),
+        (
+            "struct s a[1]",
+            CType::Structure(0, None),
+            [array(1), pointer(), pointer()],
+            DeriveFault::Incomplete,
+        ),
+    ];
+    for (name, base, derivations, wanted) in rows {
+        assert_eq!(rt; outcome(&rt, base, &derivations), Err(wanted), "{name}");
+    }
+    let deep = outcome(&rt, CType::Void, &[function(0), pointer()]);
+    assert!(rt; matches!(deep, Ok(Some(Entry::OfType(CType::Pointer(_))))));
+}
+
+/// A type that is put in, by its number.
+fn base(types: &mut Types, kind: CIntType) -> Result<Part, Fail> {
+    Ok(plain(types.number_of(Entry::OfType(CType::Integer(kind)))?))
+}
+
+/// `int (*(*fp)(int (*)(int), int))(char)`: a pointer to a function of a pointer to a function of int, and of
+/// int, that gives a pointer to a function of char that gives int.
+#[test]
+fn a_pointer_to_a_function_that_gives_one(rt: HostRuntime) -> Result<(), Fail> {
+    let mut types = Types::new(rt.alloc());
+    let int = base(&mut types, CIntType::Int)?;
+    let character = base(&mut types, CIntType::Char)?;
+    let of_int = types.parameter_list(&[int.number])?;
+    if !is_type(&types, int) {
+        return Err("int".into());
+    }
+    let callback = types.derive_all(int, &[function(of_int), pointer()])?;
+    let both = types.parameter_list(&[callback.number, int.number])?;
+    let of_char = types.parameter_list(&[character.number])?;
+    if !is_type(&types, int) {
+        return Err("int".into());
+    }
+    let fp = types.derive_all(
+        int,
+        &[function(of_char), pointer(), function(both), pointer()],
+    )?;
+    let outer = pointed(&types, fp).ok_or("no pointer")?;
+    assert_eq!(rt; parameters_of(&types, outer), Some(both));
+    assert_eq!(rt;
+        types.get(both),
+        Some(Entry::Parameters(callback.number, of_int))
+    );
+    let given = result_of(&types, outer).ok_or("no function")?;
+    let inner = pointed(&types, given).ok_or("no pointer")?;
+    assert_eq!(rt; parameters_of(&types, inner), Some(of_char));
+    assert_eq!(rt; result_of(&types, inner), Some(int));
+    Ok(())
+}
+
+/// Whether a part is there, as `derive_all` wants it.
+fn is_type(types: &Types, part: Part) -> bool
+    ensures { IsTrue result ↔ IsSomeAnd (slice_get types.now part.number) IsTypeEntry }
+{
+    match types.get(part.number) {
+        Some(Entry::OfType(_)) => true,
+        Some(Entry::NoParameters | Entry::Parameters(..)) | None => false,
+    }
+}
+
+fn pointed(types: &Types, part: Part) -> Option<Part> {
+    match types.get(part.number) {
+        Some(Entry::OfType(CType::Pointer(to))) => Some(to),
+        _ => None,
+    }
+}
+
+fn result_of(types: &Types, part: Part) -> Option<Part> {
+    match types.get(part.number) {
+        Some(Entry::OfType(CType::Function(signature))) => Some(plain(signature.result)),
+        _ => None,
+    }
+}
+
+fn parameters_of(types: &Types, part: Part) -> Option<u32> {
+    match types.get(part.number) {
+        Some(Entry::OfType(CType::Function(signature))) => Some(signature.parameters),
+        _ => None,
+    }
+}
+
+/// `int a[2][3]`: two of three, 24 bytes; and a function that gives a pointer to such an array.
+#[test]
+fn arrays_of_arrays(rt: HostRuntime) -> Result<(), Fail> {
+    let mut types = Types::new(rt.alloc());
+    let int = base(&mut types, CIntType::Int)?;
+    let none = types.parameter_list(&[])?;
+    if !is_type(&types, int) {
+        return Err("int".into());
+    }
+    let table = types.derive_all(int, &[array(3), array(2)])?;
+    let Some(Entry::OfType(CType::ArrayOf(rows))) = types.get(table.number) else {
+        return Err("no array".into());
+    };
+    assert_eq!(rt; (rows.count, rows.extent.size), (2, 12));
+    assert_eq!(rt; size_of(&CType::ArrayOf(rows)), Ok(24));
+    if !is_type(&types, table) {
+        return Err("table".into());
+    }
+    let given = types.derive_all(table, &[pointer(), function(none)])?;
+    let result = result_of(&types, given).ok_or("no function")?;
+    assert_eq!(rt; pointed(&types, result), Some(table));
+    if !is_type(&types, table) {
+        return Err("table".into());
+    }
+    let parameter = types.adjust(table)?;
+    assert_eq!(rt; pointed(&types, parameter), Some(rows.element));
+    Ok(())
+}
+
+/// A declarator of a hundred thousand of one derivation makes as many entries.
+fn long_declarator(rt: &HostRuntime, derivation: Derivation) -> Result<usize, Fail> {
+    let mut types = Types::new(rt.alloc());
+    let int = base(&mut types, CIntType::Int)?;
+    let mut derivations = Vec::new(rt.alloc());
+    for _ in 0..100_000u32 {
+        derivations.push(derivation)?;
+    }
+    if !is_type(&types, int) {
+        return Err("int".into());
+    }
+    types.derive_all(int, &derivations)?;
+    Ok(types.len())
+}
+
+#[test]
+fn a_hundred_thousand_pointers_and_suffixes(rt: HostRuntime) -> Result<(), Fail> {
+    assert_eq!(rt; long_declarator(&rt, pointer())?, 100_001);
+    assert_eq!(rt; long_declarator(&rt, array(1))?, 100_001);
+    Ok(())
+}
+
+/// `typedef int(*t1)(t0,t0);` and so on: three hundred types of which each names the one before twice.
+#[test]
+fn typedefs_of_typedefs_take_an_entry_each(rt: HostRuntime) -> Result<(), Fail> {
+    let mut types = Types::new(rt.alloc());
+    let int = base(&mut types, CIntType::Int)?;
+    let mut last = int;
+    for _ in 0..300u32 {
+        let twice = types.parameter_list(&[last.number, last.number])?;
+        if !is_type(&types, last) {
+            return Err("last".into());
+        }
+        last = types.derive_all(last, &[function(twice), pointer()])?;
+    }
+    assert_eq!(rt; types.len(), 1 + 1 + 300 * 4);
+    Ok(())
+}

@@ -1,0 +1,148 @@
+//! The types that declarators make, put into the table one derivation after the other.
+//!
+//! A declarator may have a hundred thousand derivations, and its type is as many entries of the table: nothing
+//! here recurses, and each step searches the table once.
+
+ghost use Rattle.std.specs.Prelude.{◌≡◌};
+
+use crate::ctype::{Array, CType, ElementCount, Extent, Part, Signature};
+use crate::derivation::{Derivation, DeriveFault, Shape, lowest_fault_of};
+use crate::entry::Entry;
+use crate::qualifier_set::Qualifiers;
+use crate::table::Types;
+use bitflags::Flags;
+use std::alloc::AllocError;
+
+impl Types {
+    ghost use Rattle.std.specs.Prelude.{◌≡◌, ◌≢◌, ℕ, Some, None, IfOk, IfErr, IsSomeAnd, OnOk, slice_get};
+    ghost use Rattle.c_types.specs.Derivations.{fault_of, lowest_fault};
+    ghost use Rattle.c_types.specs.Declarators.{IsTypeEntry, Keeps, Makes, IsDerived, IsParameterList, IsAdjusted, shape_at, type_of_entry};
+
+    /// The type of this number.
+    fn type_at(&self, number: u32) -> CType
+        requires { IsSomeAnd (slice_get self.now number) IsTypeEntry }
+        ensures { Some result ≡ type_of_entry (slice_get self.now number) }
+    {
+        match self.get(number) {
+            Some(Entry::OfType(ty)) => ty,
+            Some(Entry::NoParameters | Entry::Parameters(..)) | None => unreachable!(),
+        }
+    }
+
+    /// The part that a derivation makes of a part. The table may have grown also where this is refused.
+    pub fn derive(&mut self, of: Part, derivation: Derivation) -> Result<Part, DeriveFault>
+        requires { IsSomeAnd (slice_get self.old of.number) IsTypeEntry }
+        ensures made { IfOk result (λ made. Makes self.new of derivation made) }
+        ensures fine { OnOk result (fault_of (shape_at self.old of.number) derivation ≡ None) }
+        ensures fault { IfErr result (λ fault. fault ≢ DeriveFault.NoMemory
+            → fault_of (shape_at self.old of.number) derivation ≡ Some fault) }
+        ensures kept { Keeps self.old self.new }
+    {
+        let ty = self.type_at(of.number);
+        let shape = Shape::of(&ty);
+        if let Some(fault) = shape.fault_of(derivation) {
+            return Err(fault);
+        }
+        let (made, qualifiers) = match derivation {
+            Derivation::Pointer(qualifiers) => (CType::Pointer(of), qualifiers),
+            Derivation::Array(count) => match shape.extent {
+                Ok(extent) => {
+                    let array = array_of(of, extent, count);
+                    (CType::ArrayOf(array), Qualifiers::empty())
+                }
+                Err(_) => unreachable!(),
+            },
+            Derivation::Function { parameters, more } => {
+                let signature = Signature {
+                    result: of.number,
+                    parameters,
+                    more,
+                };
+                (CType::Function(signature), Qualifiers::empty())
+            }
+        };
+        match self.number_of(Entry::OfType(made)) {
+            Ok(number) => Ok(Part { number, qualifiers }),
+            Err(_) => Err(DeriveFault::NoMemory),
+        }
+    }
+
+    /// The part that a declarator's derivations make of a base type, the first of them first. The fault is the
+    /// one whose reason comes first among all that the derivations break. The table may have grown also where
+    /// this is refused.
+    pub fn derive_all(
+        &mut self,
+        base: Part,
+        derivations: &[Derivation],
+    ) -> Result<Part, DeriveFault>
+        requires { IsSomeAnd (slice_get self.old base.number) IsTypeEntry }
+        ensures made { IfOk result (λ made. IsDerived self.new base derivations.now made) }
+        ensures fine { OnOk result
+            (lowest_fault (shape_at self.old base.number) None derivations.now ≡ None) }
+        ensures fault { IfErr result (λ fault. fault ≢ DeriveFault.NoMemory
+            → lowest_fault (shape_at self.old base.number) None derivations.now ≡ Some fault) }
+        ensures kept { Keeps self.old self.new }
+    {
+        let shape = Shape::of(&self.type_at(base.number));
+        if let Some(fault) = lowest_fault_of(shape, derivations) {
+            return Err(fault);
+        }
+        let mut part = base;
+        for derivation in derivations {
+            match self.derive(part, *derivation) {
+                Ok(next) => part = next,
+                Err(fault) => return Err(fault),
+            }
+        }
+        Ok(part)
+    }
+
+    /// The number of a list of parameters, by the numbers of their types.
+    pub fn parameter_list(&mut self, types: &[u32]) -> Result<u32, AllocError>
+        ensures list { IfOk result (λ n. IsParameterList self.new types.now n) }
+        ensures kept { Keeps self.old self.new }
+    {
+        let mut list = self.number_of(Entry::NoParameters)?;
+        for index in (0..types.len()).rev() {
+            list = self.number_of(Entry::Parameters(types[index], list))?;
+        }
+        Ok(list)
+    }
+
+    /// What a parameter of this type is: an array is a pointer to its first element, and a function a pointer to
+    /// it (C11 6.7.6.3p7).
+    pub fn adjust(&mut self, parameter: Part) -> Result<Part, AllocError>
+        requires { IsSomeAnd (slice_get self.old parameter.number) IsTypeEntry }
+        ensures adjusted { IfOk result (λ made. IsAdjusted self.old self.new parameter made) }
+        ensures kept { Keeps self.old self.new }
+    {
+        let to = match self.type_at(parameter.number) {
+            CType::ArrayOf(array) => array.element,
+            CType::Function(_) => parameter,
+            CType::Void
+            | CType::Integer(_)
+            | CType::Enumeration(_)
+            | CType::Pointer(_)
+            | CType::Structure(..)
+            | CType::Union(..) => return Ok(parameter),
+        };
+        let number = self.number_of(Entry::OfType(CType::Pointer(to)))?;
+        Ok(Part {
+            number,
+            qualifiers: Qualifiers::empty(),
+        })
+    }
+}
+
+/// An array of so many of this element, which has this extent.
+fn array_of(element: Part, extent: Extent, count: ElementCount) -> Array
+    ensures element { result.element ≡ element }
+    ensures extent { result.extent ≡ extent }
+    ensures count { result.count ≡ count.value }
+{
+    Array {
+        element,
+        extent,
+        count: count.value,
+    }
+}
