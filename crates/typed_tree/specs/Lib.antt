@@ -1,0 +1,4 @@
+pub mod Plain
+pub mod Operands
+pub mod Temps
+pub mod Fits

@@ -29,12 +29,12 @@ pub enum Expr {
         all: bool,
         operands: Items<Expr>,
     },
-    /// `test ? yes : no`
+    /// `test ? then : otherwise`
     Choose {
         line: u32,
         test: Boxed<Expr>,
-        yes: Boxed<Expr>,
-        no: Boxed<Expr>,
+        then: Boxed<Expr>,
+        otherwise: Boxed<Expr>,
     },
     /// `printf`: the operands, and then the pieces between the lock of the output and its release.
     Print {

@@ -19,5 +19,5 @@ pub use declared::{
 };
 pub use expr::{Expr, Link};
 pub use operation::{Access, Change, Operation, Piece, Unit};
-pub use program::FunctionDef;
+pub use program::{FunctionDef, Program};
 pub use stmt::{Case, LocalDef, LocalKind, Stmt};

@@ -12,7 +12,9 @@ use sqlite_items::{Boxed, Items};
 #[derive(Drop)]
 pub enum Stmt {
     /// An expression whose value is dropped.
-    Run { value: Expr },
+    Run {
+        value: Expr,
+    },
     /// Its locals are zero and have their homes when it is entered.
     Block {
         locals: Items<LocalDef>,
@@ -21,8 +23,8 @@ pub enum Stmt {
     If {
         line: u32,
         test: Expr,
-        yes: Boxed<Stmt>,
-        no: Boxed<Stmt>,
+        then: Boxed<Stmt>,
+        otherwise: Boxed<Stmt>,
     },
     /// The body and then `next`, again and again.
     Loop {
@@ -31,9 +33,16 @@ pub enum Stmt {
         next: Boxed<Stmt>,
     },
     /// Leaves the loop where the test is zero.
-    BreakUnless { line: u32, test: Expr },
-    Break { line: u32 },
-    Continue { line: u32 },
+    BreakUnless {
+        line: u32,
+        test: Expr,
+    },
+    Break {
+        line: u32,
+    },
+    Continue {
+        line: u32,
+    },
     /// Goes on at the statement of the case with this value, or at `other`.
     Switch {
         line: u32,
@@ -42,7 +51,10 @@ pub enum Stmt {
         other: u32,
         body: Items<Stmt>,
     },
-    Return { line: u32, value: Option<Expr> },
+    Return {
+        line: u32,
+        value: Option<Expr>,
+    },
 }
 
 /// A case: its value, and the index of the statement where it goes on.
