@@ -1,5 +1,5 @@
 -- One derivation after the other: the faults, and the types that are made.
-use Rattle.std.proofs.Common.{◌≡◌, ◌≢◌, ◌⊎◌, ℕ, suc, ◌+◌, ◌<◌, ◌≤◌, List, [], ◌∷◌, ◌++◌, length, get_or, drop, Option, Some, None, refl, sym, ap, ◌∙◌, subst, ⊎_elim, cond, Bool, true, false, Result, Ok, Err, IsSomeAnd, add-one, arith}
+use Rattle.std.proofs.Common.{◌≡◌, ◌⊎◌, ℕ, suc, ◌+◌, ◌<◌, List, [], ◌∷◌, ◌++◌, length, get_or, drop, Option, Some, None, refl, sym, ap, ◌∙◌, subst, ⊎_elim, Bool, Ok, IsSomeAnd, add-one}
 use Rattle.std.proofs.Math.Seq.{drop-cons}
 use Rattle.c_types.specs.declared.derivation.Derivation.{Derivation}
 use Rattle.c_types.specs.declared.derivation.DeriveFault.{DeriveFault}
@@ -15,9 +15,8 @@ use Rattle.c_types.specs.declared.derivation.Derivation.TheVariants.{Pointer as 
 use Rattle.c_types.specs.declared.entry.Entry.{Entry}
 use Rattle.c_types.specs.declared.entry.Entry.TheVariants.{OfType, NoParameters, Parameters}
 use Rattle.c_types.specs.Sizes.{Room}
-use Rattle.c_types.specs.Derivations.{Shape, shape_of, shape_after, fault_of, lower, lowest, lowest_fault, room_of_elements}
-use Rattle.c_types.specs.Declarators.{IsTypeEntry, type_of_entry, shape_of_any, shape_at, Keeps, IsPlain, Makes, IsDerived, IsParameterList}
-use Rattle.c_types.specs.declared.ctype.TypeFault.{TypeFault}
+use Rattle.c_types.specs.Derivations.{Shape, shape_of, shape_after, fault_of, lower, lowest, lowest_fault}
+use Rattle.c_types.specs.Declarators.{IsTypeEntry, type_of_entry, shape_of_any, shape_at, Keeps, Makes, IsDerived, IsParameterList}
 use Rattle.c_types.specs.LayoutLaws.{room_size, room_align}
 use Rattle.c_types.proofs.Orders.{array_by_parts}
 use Rattle.c_types.proofs.Numberings.{slice_get-push_before}

@@ -1,16 +1,14 @@
 -- The types that declarators make, as a table of types has them.
-use Rattle.std.specs.Prelude.{◌≡◌, ℕ, false, List, [], ◌∷◌, slice_get, Option, Some, None, Result, Ok, Err}
+use Rattle.std.specs.Prelude.{◌≡◌, ℕ, false, List, [], ◌∷◌, slice_get, Option, Some, None, Ok, Err}
 use Rattle.c_types.specs.declared.ctype.CType.{CType}
-use Rattle.c_types.specs.declared.ctype.CType.TheVariants.{Void, Integer, Enumeration, Pointer, ArrayOf, Function, Structure, Union}
+use Rattle.c_types.specs.declared.ctype.CType.TheVariants.{Pointer, ArrayOf, Function}
 use Rattle.c_types.specs.declared.ctype.Part.{Part}
 use Rattle.c_types.specs.declared.ctype.Array.{Array}
-use Rattle.c_types.specs.declared.ctype.Extent.{Extent}
 use Rattle.c_types.specs.declared.ctype.TypeFault.TheVariants.{Incomplete}
 use Rattle.c_types.specs.declared.derivation.Derivation.{Derivation}
 use Rattle.c_types.specs.declared.derivation.Derivation.TheVariants.{Pointer as PointerTo, Array as ArrayOfSo, Function as FunctionOf}
 use Rattle.c_types.specs.declared.entry.Entry.{Entry}
 use Rattle.c_types.specs.declared.entry.Entry.TheVariants.{OfType, NoParameters, Parameters}
-use Rattle.c_types.specs.Sizes.{Room, room_of}
 use Rattle.c_types.specs.Derivations.{Shape, shape_of}
 
 abbrev pub IsTypeEntry : Entry → Type 0

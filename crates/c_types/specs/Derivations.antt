@@ -2,11 +2,9 @@
 --
 -- A declarator's `*`, `[n]` and `(..)` are derivations. The first makes a pointer, an array or a function of
 -- the base type, the next one of what came out, and so on: the type of a declarator is a fold over them.
-use Rattle.std.specs.Prelude.{◌≡◌, ℕ, ◌*◌, ◌<◌, nat_lt, Bool, true, false, if◌then◌else◌, List, [], ◌∷◌, slice_get, Option, Some, None, Result, Ok, Err}
+use Rattle.std.specs.Prelude.{ℕ, ◌*◌, nat_lt, Bool, true, false, if◌then◌else◌, List, [], ◌∷◌, Option, Some, None, Result, Ok, Err}
 use Rattle.c_types.specs.declared.ctype.CType.{CType}
 use Rattle.c_types.specs.declared.ctype.CType.TheVariants.{Void, Integer, Enumeration, Pointer, ArrayOf, Function, Structure, Union}
-use Rattle.c_types.specs.declared.ctype.Part.{Part}
-use Rattle.c_types.specs.declared.ctype.Array.{Array}
 use Rattle.c_types.specs.declared.ctype.TypeFault.{TypeFault}
 use Rattle.c_types.specs.declared.ctype.TypeFault.TheVariants.{Incomplete, TooLarge}
 use Rattle.c_types.specs.declared.derivation.Derivation.{Derivation}
@@ -14,8 +12,6 @@ use Rattle.c_types.specs.declared.derivation.Derivation.TheVariants.{Pointer as 
 use Rattle.c_types.specs.declared.derivation.DeriveFault.{DeriveFault}
 use Rattle.c_types.specs.declared.derivation.DeriveFault.TheVariants.{Incomplete as IncompleteElement, TooLarge as TooLargeArray, BadResult, NoMemory}
 use Rattle.c_types.specs.declared.derivation.Shape.{Shape as KnownShape}
-use Rattle.c_types.specs.declared.entry.Entry.{Entry}
-use Rattle.c_types.specs.declared.entry.Entry.TheVariants.{OfType, NoParameters, Parameters}
 use Rattle.c_types.specs.Sizes.{Room, scalar_room, room_of, room_in}
 
 -- ---- which derivations may follow one another

@@ -50,10 +50,11 @@ fn outcome(
     let Ok(number) = number else {
         return Err(DeriveFault::NoMemory);
     };
-    if !is_type(&types, plain(number)) {
+    let base = plain(number);
+    if !is_type(&types, base) {
         return Err(DeriveFault::NoMemory);
     }
-    let part = types.derive_all(plain(number), derivations)?;
+    let part = types.derive_all(base, derivations)?;
     Ok(types.get(part.number))
 }
 

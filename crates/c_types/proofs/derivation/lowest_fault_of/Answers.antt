@@ -1,5 +1,5 @@
 -- The next derivation is the first of those that are left.
-use Rattle.std.proofs.Common.{◌≡◌, ◌≤◌, length, drop, sym, ap, ◌∙◌, arith}
+use Rattle.std.proofs.Common.{◌≤◌, length, sym, ap, ◌∙◌, arith}
 use Rattle.std.proofs.Math.ListN.{drop_of_length-le}
 use Rattle.c_types.specs.Derivations.{lowest_fault, shape_in}
 use Rattle.c_types.proofs.Deriving.{next_fault}
