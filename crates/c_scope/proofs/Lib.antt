@@ -1,3 +1,4 @@
 pub mod Names
 pub mod Stacking
 pub mod Paired
+pub mod Joined

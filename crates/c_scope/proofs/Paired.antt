@@ -1,8 +1,7 @@
 -- A declaration changes no number of blocks, and is the one that is taken back.
-use Rattle.std.proofs.Common.{◌≡◌, ◌<◌, List, [], ◌∷◌, length, Result, Ok, Err, refl, sym, ap, ◌∙◌, subst, arith}
+use Rattle.std.proofs.Common.{◌≡◌, ◌<◌, List, [], ◌∷◌, length, Result, Ok, Err, refl, ap, ◌∙◌, arith}
 use Rattle.std.specs.Result.{OnOk, IfErr}
 use Rattle.c_scope.specs.Blocks.{Named, with_declaration, without_newest}
-use Rattle.c_scope.specs.Pairs.{IsPaired}
 
 pub length-declaration : (d : Named) (blocks : List (List Named)) → 0 < length blocks → length (with_declaration d blocks) ≡ length blocks
 length-declaration d [] some = absurd (omega arith)

@@ -6,6 +6,7 @@
 
 mod again;
 mod blocks;
+pub mod laws;
 mod scopes;
 mod space;
 

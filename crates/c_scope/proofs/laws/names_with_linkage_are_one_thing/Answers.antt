@@ -1,0 +1,5 @@
+use Rattle.c_scope.proofs.Joined.{linked_are_one}
+use Rattle.c_scope.proofs.laws.names_with_linkage_are_one_thing.Goals as goal
+
+pub returns : goal.returns
+returns c = λ names r. linked_are_one names r
