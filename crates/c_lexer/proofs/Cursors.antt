@@ -3,11 +3,11 @@ use Rattle.std.proofs.Common.{◌≡◌, ℕ, ◌+◌, ◌<◌, ◌≤◌, ◌^�
 use Rattle.std.proofs.lemmas.List.{drop_all, get_or-drop}
 use Rattle.std.proofs.lemmas.Bool.{ltb-true, ltb-false}
 use Rattle.c_lexer.specs.Classes.{line_feed}
-use Rattle.c_lexer.specs.Source.{joined, lines_ended, lines_of, splice_at}
+use Rattle.c_lexer.specs.Source.{without_splices, lines_ended, lines_of, splice_at}
 use Rattle.c_lexer.specs.declared.token.Origin.{Origin}
 use Rattle.c_lexer.specs.declared.source.Cursor.{Cursor}
 use Rattle.c_lexer.specs.Cursor.{Reaches, IsAt}
-use Rattle.c_lexer.proofs.Splices.{begins_splice-drop, at_place, two_on, joined-splice, joined-byte, lines_of-splice, lines_of-byte}
+use Rattle.c_lexer.proofs.Splices.{begins_splice-drop, at_place, two_on, without_splices-splice, without_splices-byte, lines_of-splice, lines_of-byte}
 
 -- no byte of a header ends a line
 pub ended_less : (library : Bool) (line ended size place b : ℕ) → ended ≡ lines_ended library b → ended ≤ 1 → line < 2 ^ 32 → (library ≡ false → line + size < 2 ^ 32 + place) → place < size → line + ended < 2 ^ 32
@@ -19,7 +19,7 @@ over_splice origin file cursor ended r is room ended_is small =
     let at = cursor.place in
     let begins = begins_splice-drop file at ∙ sym is in
     let lt : at < length file = omega arith in
-    let joined_here = ap joined (at_place file at lt) ∙ joined-splice (get_or file at 0) (drop (at + 1) file) begins ∙ ap joined (two_on file at) in
+    let joined_here = ap without_splices (at_place file at lt) ∙ without_splices-splice (get_or file at 0) (drop (at + 1) file) begins ∙ ap without_splices (two_on file at) in
     let lines_here = ap (lines_of origin.library cursor.line) (at_place file at lt) ∙ lines_of-splice origin.library cursor.line (get_or file at 0) (drop (at + 1) file) begins ∙ ap (lines_of origin.library (cursor.line + lines_ended origin.library line_feed)) (two_on file at) in
     record {
       within = room;
@@ -33,16 +33,16 @@ over_splice origin file cursor ended r is room ended_is small =
 next_left : (x : ℕ) (rest whole : List ℕ) (n : ℕ) → x ∷ rest ≡ drop n whole → rest ≡ drop (n + 1) whole
 next_left x rest whole n e = ap (drop 1) e ∙ drop-drop 1 n whole ∙ ap (λ k. drop k whole) (omega arith)
 
-pub place_inside : (origin : Origin) (file : List ℕ) (cursor : Cursor) → Reaches origin file cursor → cursor.byte < length (joined file) → cursor.place < length file
-unfolding joined
+pub place_inside : (origin : Origin) (file : List ℕ) (cursor : Cursor) → Reaches origin file cursor → cursor.byte < length (without_splices file) → cursor.place < length file
+unfolding without_splices
 place_inside origin file cursor r h = by_case (nat_lt cursor.place (length file)) refl
   where
     by_case : (b : Bool) → nat_lt cursor.place (length file) ≡ b → cursor.place < length file
     by_case true e = ltb-true cursor.place (length file) e
     by_case false e =
-        let none : [] ≡ drop cursor.byte (joined file) = sym (ap joined (drop_all cursor.place file (ltb-false cursor.place (length file) e))) ∙ r.bytes in
-        let size : 0 ≡ length (drop cursor.byte (joined file)) = ap length none in
-        absurd (omega (arith, length-drop cursor.byte (joined file)))
+        let none : [] ≡ drop cursor.byte (without_splices file) = sym (ap without_splices (drop_all cursor.place file (ltb-false cursor.place (length file) e))) ∙ r.bytes in
+        let size : 0 ≡ length (drop cursor.byte (without_splices file)) = ap length none in
+        absurd (omega (arith, length-drop cursor.byte (without_splices file)))
 
 pub over_byte : (origin : Origin) (file : List ℕ) (cursor : Cursor) (ended : ℕ) → IsAt origin file cursor → cursor.place < length file → ended ≡ lines_ended origin.library (get_or file cursor.place 0) → ended ≤ 1 → Reaches origin file (record { byte = cursor.byte + 1; place = cursor.place + 1; line = cursor.line + ended })
 over_byte origin file cursor ended a lt ended_is small =
@@ -50,13 +50,13 @@ over_byte origin file cursor ended a lt ended_is small =
     let at = cursor.place in
     let byte = get_or file at 0 in
     let begins = begins_splice-drop file at ∙ a.at_byte in
-    let joined_here = ap joined (at_place file at lt) ∙ joined-byte byte (drop (at + 1) file) begins in
+    let joined_here = ap without_splices (at_place file at lt) ∙ without_splices-byte byte (drop (at + 1) file) begins in
     let lines_here = ap (lines_of origin.library cursor.line) (at_place file at lt) ∙ lines_of-byte origin.library cursor.line byte (drop (at + 1) file) begins in
     record {
       within = omega arith;
       before = omega (arith, r.before);
       small = λ h. omega (arith, r.small h);
-      bytes = next_left byte _ (joined file) cursor.byte (sym joined_here ∙ r.bytes);
+      bytes = next_left byte _ (without_splices file) cursor.byte (sym joined_here ∙ r.bytes);
       lines = ap (λ k. lines_of origin.library (cursor.line + k) (drop (at + 1) file)) ended_is ∙ next_left cursor.line _ (lines_of origin.library origin.line file) cursor.byte (sym lines_here ∙ r.lines);
     }
 

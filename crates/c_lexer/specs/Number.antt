@@ -73,8 +73,8 @@ int_type_of LongLong = I64
 int_type_of UnsignedLongLong = U64
 
 -- the number with the first of its types that holds it
-abbrev pub typed : ℕ → Bool → Suffix → Option Number
-typed value decimal suffix =
+abbrev pub number_with_type : ℕ → Bool → Suffix → Option Number
+number_with_type value decimal suffix =
     option_map (λ c_type. record { value = value; c_type = c_type })
     (find (λ c_type. nat_lt value (limit_of c_type)) (types_of decimal suffix))
 
@@ -83,7 +83,7 @@ abbrev pub number_in : ℕ → List ℕ → Option Number
 number_in base text =
     let count = prefix_len (λ b. is_digit b base) text in
     cond (count == 0) None
-    (option_and_then (λ suffix. typed (value_of base 0 (digits_of base text)) (base == 10) suffix) (suffix_of (drop count text)))
+    (option_and_then (λ suffix. number_with_type (value_of base 0 (digits_of base text)) (base == 10) suffix) (suffix_of (drop count text)))
 
 -- the number that the bytes are
 unfoldable pub number_of : List ℕ → Option Number

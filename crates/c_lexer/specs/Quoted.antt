@@ -39,8 +39,8 @@ abbrev pub element : ℕ → ℕ → Option Element
 element value size = cond (nat_lt value 256) (Some (record { value = value; size = size })) None
 
 -- the digits of this base at the front, one at least, behind so many bytes
-abbrev pub coded : ℕ → ℕ → List ℕ → Option Element
-coded base before text =
+abbrev pub element_with_code : ℕ → ℕ → List ℕ → Option Element
+element_with_code base before text =
     let count = prefix_len (λ b. is_digit b base) text in
     cond (count == 0) None (element (value_of base 0 (digits_of base text)) (before + count))
 
@@ -48,8 +48,8 @@ coded base before text =
 abbrev pub escape_of : List ℕ → Option Element
 escape_of [] = None
 escape_of (b ∷ rest) =
-    cond (b == 120) (coded 16 2 rest)
-    (cond (is_digit b 8) (coded 8 1 (take 3 (b ∷ rest)))
+    cond (b == 120) (element_with_code 16 2 rest)
+    (cond (is_digit b 8) (element_with_code 8 1 (take 3 (b ∷ rest)))
     (option_map (λ value. record { value = value; size = 2 }) (simple_escape b)))
 
 -- the byte or escape at the front

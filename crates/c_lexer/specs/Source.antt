@@ -12,16 +12,16 @@ abbrev pub is_splice : ℕ → ℕ → Bool
 is_splice a b = a == backslash && b == line_feed
 
 -- the file without its splices
-unfoldable pub joined : List ℕ → List ℕ
-joined [] = []
-joined (a ∷ []) = a ∷ []
-joined (a ∷ b ∷ rest) = cond (is_splice a b) (joined rest) (a ∷ joined (b ∷ rest))
+unfoldable pub without_splices : List ℕ → List ℕ
+without_splices [] = []
+without_splices (a ∷ []) = a ∷ []
+without_splices (a ∷ b ∷ rest) = cond (is_splice a b) (without_splices rest) (a ∷ without_splices (b ∷ rest))
 
 -- how many lines a byte ends
 abbrev pub lines_ended : Bool → ℕ → ℕ
 lines_ended library b = cond (not library && b == line_feed) 1 0
 
--- the line of each byte of `joined`, where the first byte of the file has this line
+-- the line of each byte of `without_splices`, where the first byte of the file has this line
 unfoldable pub lines_of : Bool → ℕ → List ℕ → List ℕ
 lines_of library line [] = []
 lines_of library line (a ∷ []) = line ∷ []

@@ -8,7 +8,7 @@ use Rattle.c_lexer.specs.declared.token.Token.{Token}
 use Rattle.c_lexer.specs.declared.token.Origin.{Origin}
 use Rattle.c_lexer.specs.declared.token.TokenKind.{TokenKind}
 use Rattle.c_lexer.specs.declared.token.TokenKind.TheVariants.{End}
-use Rattle.c_lexer.specs.Source.{joined, lines_of, last_line_of}
+use Rattle.c_lexer.specs.Source.{without_splices, lines_of, last_line_of}
 use Rattle.c_lexer.specs.Front.{front_of}
 
 -- a token list, or the fault that comes before it is whole
@@ -53,7 +53,7 @@ file_limit = 1048576
 abbrev pub tokens_with : Origin → List ℕ → Outcome
 tokens_with origin file =
     cond (nat_lt file_limit (length file)) (Err fault.TooLong)
-    (tokens_from origin.library (last_line_of origin.library origin.line file) (lines_of origin.library origin.line file) 0 true 0 (joined file))
+    (tokens_from origin.library (last_line_of origin.library origin.line file) (lines_of origin.library origin.line file) 0 true 0 (without_splices file))
 
 -- where a user's file comes from
 abbrev pub user : Origin

@@ -3,7 +3,7 @@
 ghost use Rattle.std.specs.Prelude.{◌≡◌, ℕ, ◌+◌, ◌*◌, ◌≤◌, ◌<◌, ◌==◌, nat_lt, length, MatchOption};
 ghost use Rattle.std.specs.List.{find, prefix_len};
 ghost use Rattle.std.specs.Char.{is_digit};
-ghost use Rattle.c_lexer.specs.Number.{value_of, digits_of, fitting, suffix_of, is_u, is_l, is_ll, types_of, limit_of, typed, number_in, number_of, int_type_of};
+ghost use Rattle.c_lexer.specs.Number.{value_of, digits_of, fitting, suffix_of, is_u, is_l, is_ll, types_of, limit_of, number_with_type, number_in, number_of, int_type_of};
 
 use crate::classes::digit_value;
 use filc_num::IntType;
@@ -96,7 +96,7 @@ fn number_in(base: u64, text: &[u8]) -> Option<Number>
     }
     let suffix = read_suffix(&text[digits.count..])?;
     let value = digits.value?;
-    typed(value, base == 10, suffix)
+    number_with_type(value, base == 10, suffix)
 }
 
 /// Reads the digits of the base at the front.
@@ -186,8 +186,8 @@ fn first_type(value: u64, types: &[NumberType]) -> Option<NumberType>
     types.iter().copied().find(|c_type| c_type.holds(value))
 }
 
-fn typed(value: u64, decimal: bool, suffix: Suffix) -> Option<Number>
-    ensures { result ≡ typed value decimal suffix }
+fn number_with_type(value: u64, decimal: bool, suffix: Suffix) -> Option<Number>
+    ensures { result ≡ number_with_type value decimal suffix }
 {
     let c_type = first_type(value, types(decimal, suffix))?;
     Some(Number { value, c_type })

@@ -3,7 +3,7 @@
 ghost use Rattle.std.specs.Prelude.{◌≡◌, ◌+◌, ◌-◌, ◌*◌, ◌<◌, ◌≤◌, Bool, true, false, take, drop, length, IfSome, IfOk};
 ghost use Rattle.std.specs.Option.{option_map};
 ghost use Rattle.std.specs.Vec.{vec_items};
-ghost use Rattle.c_lexer.specs.Quoted.{closing, closes, escapes, simple_escape, element, coded, escape_of, element_of, values_of, body_of, text_of, signed_char, character_of};
+ghost use Rattle.c_lexer.specs.Quoted.{closing, closes, escapes, simple_escape, element, element_with_code, escape_of, element_of, values_of, body_of, text_of, signed_char, character_of};
 
 use crate::numbers::read_digits;
 use std::alloc::{AllocError, Global};
@@ -62,11 +62,11 @@ fn simple_escape(b: u8) -> Option<u8>
 }
 
 /// The byte that the digits of the base write, at least one, behind the bytes `before` them.
-fn coded(base: u64, before: usize, text: &[u8]) -> Option<Element>
+fn element_with_code(base: u64, before: usize, text: &[u8]) -> Option<Element>
     requires low { 1 ≤ base }
     requires high { base ≤ 16 }
     requires room { before ≤ 2 }
-    ensures value { result ≡ coded base before text.now }
+    ensures value { result ≡ element_with_code base before text.now }
     ensures within { IfSome result (λ e. (before < e.size) × (e.size ≤ before + length text.now)) }
 {
     let digits = read_digits(base, text);
@@ -90,8 +90,8 @@ fn escape(text: &[u8]) -> Option<Element>
 {
     match *text {
         [] => None,
-        [b'x', ..] => coded(16, 2, &text[1..]),
-        [b'0'..=b'7', ..] => coded(8, 1, &text[..text.len().min(3)]),
+        [b'x', ..] => element_with_code(16, 2, &text[1..]),
+        [b'0'..=b'7', ..] => element_with_code(8, 1, &text[..text.len().min(3)]),
         [b, ..] => {
             let value = simple_escape(b)?;
             Some(Element { value, size: 2 })

@@ -8,7 +8,7 @@ ghost use Rattle.std.specs.Prelude.{◌≡◌, ◌≢◌, ◌↔◌, ◌+◌, �
 ghost use Rattle.std.specs.Result.{IsErrOf};
 ghost use Rattle.c_lexer.specs.List.{all_within, ends_once};
 ghost use Rattle.c_lexer.specs.Law.{IsCutInto};
-ghost use Rattle.c_lexer.specs.Source.{joined, lines_of};
+ghost use Rattle.c_lexer.specs.Source.{without_splices, lines_of};
 ghost use Rattle.c_lexer.specs.Tokens.{tokens_of, library_tokens_of, token_at, tokens_with, tokens_from, file_limit};
 
 use crate::fault::LexFault;
@@ -27,7 +27,7 @@ const FILE_LIMIT: usize = 1_048_576;
 /// bytes is not looked at. Memory is taken for the tokens, and for the file once more.
 pub fn lex(alloc: Global, file: &[u8]) -> Result<Tokens, LexFault>
     ensures list { IfOk result (λ tokens. tokens_of file.now ≡ Ok tokens.list.items) }
-    ensures bytes { IfOk result (λ tokens. tokens.bytes.items ≡ joined file.now) }
+    ensures bytes { IfOk result (λ tokens. tokens.bytes.items ≡ without_splices file.now) }
     ensures cut { IfOk result (λ tokens. IsCutInto 0 tokens.bytes.items tokens.list.items) }
     ensures too_long { IsErrOf result LexFault.TooLong ↔ (file_limit < length file.now) }
     ensures fault { IfErr result (λ fault. fault ≢ LexFault.NoMemory → tokens_of file.now ≡ Err fault) }
@@ -43,7 +43,7 @@ pub fn lex(alloc: Global, file: &[u8]) -> Result<Tokens, LexFault>
 /// fault. Names may begin with `__filc_`. Each token and each fault has that line.
 pub fn lex_library(alloc: Global, text: &[u8], line: u32) -> Result<Tokens, LexFault>
     ensures list { IfOk result (λ tokens. library_tokens_of line text.now ≡ Ok tokens.list.items) }
-    ensures bytes { IfOk result (λ tokens. tokens.bytes.items ≡ joined text.now) }
+    ensures bytes { IfOk result (λ tokens. tokens.bytes.items ≡ without_splices text.now) }
     ensures cut { IfOk result (λ tokens. IsCutInto 0 tokens.bytes.items tokens.list.items) }
     ensures too_long { IsErrOf result LexFault.TooLong ↔ (file_limit < length text.now) }
     ensures fault { IfErr result (λ fault. fault ≢ LexFault.NoMemory → library_tokens_of line text.now ≡ Err fault) }
@@ -59,7 +59,7 @@ pub fn lex_library(alloc: Global, text: &[u8], line: u32) -> Result<Tokens, LexF
 fn lex_from(alloc: Global, origin: Origin, file: &[u8]) -> Result<Tokens, LexFault>
     requires { origin.library ≡ false → origin.line ≤ 1 }
     ensures list { IfOk result (λ tokens. tokens_with origin file.now ≡ Ok tokens.list.items) }
-    ensures bytes { IfOk result (λ tokens. tokens.bytes.items ≡ joined file.now) }
+    ensures bytes { IfOk result (λ tokens. tokens.bytes.items ≡ without_splices file.now) }
     ensures cut { IfOk result (λ tokens. IsCutInto 0 tokens.bytes.items tokens.list.items) }
     ensures too_long { IsErrOf result LexFault.TooLong ↔ (file_limit < length file.now) }
     ensures fault { IfErr result (λ fault. fault ≢ LexFault.NoMemory → tokens_with origin file.now ≡ Err fault) }
@@ -83,7 +83,7 @@ fn scan(
     file: &[u8],
     bytes: &[u8],
 ) -> Result<Vec<Token>, LexFault>
-    requires bytes { bytes.now ≡ joined file.now }
+    requires bytes { bytes.now ≡ without_splices file.now }
     requires room { origin.library ≡ false → origin.line + length file.now < 2 ^ 32 }
     requires small { length bytes.now < 2 ^ 32 }
     ensures list { IfOk result (λ list. tokens_from origin.library last (lines_of origin.library origin.line file.now) 0 true 0 bytes.now ≡ Ok list.items) }

@@ -5,7 +5,7 @@ ghost use Rattle.std.specs.Prelude.{◌==◌};
 ghost use Rattle.std.specs.Bool.{OnTrue};
 ghost use Rattle.std.specs.List.{count_by};
 ghost use Rattle.c_lexer.specs.Classes.{line_feed};
-ghost use Rattle.c_lexer.specs.Source.{splice_at, is_splice, lines_ended, joined, lines_of, last_line_of};
+ghost use Rattle.c_lexer.specs.Source.{splice_at, is_splice, lines_ended, without_splices, lines_of, last_line_of};
 ghost use Rattle.c_lexer.specs.Cursor.{Reaches, IsAt};
 
 use crate::token::Origin;
@@ -43,7 +43,7 @@ fn splice_at(file: &[u8], at: usize) -> bool
 
 /// The file without its splices.
 pub fn without_splices(alloc: Global, file: &[u8]) -> Result<Vec<u8>, AllocError>
-    ensures bytes { IfOk result (λ bytes. bytes.items ≡ joined file.now) }
+    ensures bytes { IfOk result (λ bytes. bytes.items ≡ without_splices file.now) }
     ensures small { IfOk result (λ bytes. vec_len bytes ≤ length file.now) }
 {
     let mut bytes = Vec::with_capacity(alloc, file.len())?;
@@ -78,10 +78,10 @@ impl Cursor {
     pub fn forward(self, origin: Origin, file: &[u8], to: usize) -> Cursor
         requires from { IsAt origin file.now self }
         requires on { self.byte ≤ to }
-        requires within { to ≤ length (joined file.now) }
+        requires within { to ≤ length (without_splices file.now) }
         ensures at { IsAt origin file.now result }
         ensures byte { result.byte ≡ to }
-        ensures line { to < length (joined file.now) → result.line ≡ slice_index (lines_of origin.library origin.line file.now) to }
+        ensures line { to < length (without_splices file.now) → result.line ≡ slice_index (lines_of origin.library origin.line file.now) to }
     {
         let mut cursor = self;
         while cursor.byte < to {
@@ -94,7 +94,7 @@ impl Cursor {
     /// Passes over the byte that stands there.
     fn behind_byte(self, origin: Origin, file: &[u8]) -> Cursor
         requires from { IsAt origin file.now self }
-        requires within { self.byte < length (joined file.now) }
+        requires within { self.byte < length (without_splices file.now) }
         ensures on { Reaches origin file.now result }
         ensures byte { result.byte ≡ self.byte + 1 }
     {
