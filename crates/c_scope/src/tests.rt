@@ -1,15 +1,15 @@
 //! Scopes as files open them, and pairs of declarations of one name.
 
 use super::*;
-use bitflags::Flags;
 use c_types::{Part, Qualifiers, Tag};
 use std::test::Fail;
 use typed_tree::{Declared, DeclaredFunction, DeclaredObject, DeclaredTag, Linkage, ObjectNumber};
 
+/// A part of this type, const.
 fn part(number: u32) -> Part {
     Part {
         number,
-        qualifiers: Qualifiers::empty(),
+        qualifiers: Qualifiers::CONST,
     }
 }
 
