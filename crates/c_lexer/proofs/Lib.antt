@@ -8,3 +8,4 @@ pub mod Cases
 pub mod Lengths
 pub mod Fronts
 pub mod Cuts
+pub mod LawProofs

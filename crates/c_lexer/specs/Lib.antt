@@ -8,3 +8,4 @@ pub mod List
 pub mod Front
 pub mod Tokens
 pub mod Law
+pub mod Endings

@@ -14,6 +14,7 @@
 mod classes;
 mod fault;
 mod front;
+pub mod laws;
 mod numbers;
 mod punct;
 mod quoted;
