@@ -137,7 +137,8 @@ fn quoted_front(quote: u8, rest: &[u8]) -> Front
 /// The text or character constant whose quotes have these bytes between them.
 fn quoted_token(quote: u8, before: usize, body: &[u8]) -> Front
     requires { before < 2 ^ 63 }
-    ensures value { result ≡ quoted_token (before + 1) (option_and_then (quoted_kind quote) (option_map length (values_of 0 body.now))) }
+    ensures value { result
+        ≡ quoted_token (before + 1) (option_and_then (quoted_kind quote) (option_map length (values_of 0 body.now))) }
     ensures within { more_of result ≤ before + 1 }
     ensures no_end { gives_end result ≡ false }
 {

@@ -30,7 +30,8 @@ pub fn lex(alloc: Global, file: &[u8]) -> Result<Tokens, LexFault>
     ensures bytes { IfOk result (λ tokens. tokens.bytes.items ≡ without_splices file.now) }
     ensures cut { IfOk result (λ tokens. IsCutInto 0 tokens.bytes.items tokens.list.items) }
     ensures too_long { IsErrOf result LexFault.TooLong ↔ (file_limit < length file.now) }
-    ensures fault { IfErr result (λ fault. fault ≢ LexFault.NoMemory → tokens_of file.now ≡ Err fault) }
+    ensures fault { IfErr result (λ fault. fault ≢ LexFault.NoMemory → tokens_of file.now
+        ≡ Err fault) }
 {
     let user = Origin {
         line: 1,
@@ -46,7 +47,8 @@ pub fn lex_library(alloc: Global, text: &[u8], line: u32) -> Result<Tokens, LexF
     ensures bytes { IfOk result (λ tokens. tokens.bytes.items ≡ without_splices text.now) }
     ensures cut { IfOk result (λ tokens. IsCutInto 0 tokens.bytes.items tokens.list.items) }
     ensures too_long { IsErrOf result LexFault.TooLong ↔ (file_limit < length text.now) }
-    ensures fault { IfErr result (λ fault. fault ≢ LexFault.NoMemory → library_tokens_of line text.now ≡ Err fault) }
+    ensures fault { IfErr result (λ fault. fault ≢ LexFault.NoMemory
+        → library_tokens_of line text.now ≡ Err fault) }
 {
     let header = Origin {
         line,
@@ -62,7 +64,8 @@ fn lex_from(alloc: Global, origin: Origin, file: &[u8]) -> Result<Tokens, LexFau
     ensures bytes { IfOk result (λ tokens. tokens.bytes.items ≡ without_splices file.now) }
     ensures cut { IfOk result (λ tokens. IsCutInto 0 tokens.bytes.items tokens.list.items) }
     ensures too_long { IsErrOf result LexFault.TooLong ↔ (file_limit < length file.now) }
-    ensures fault { IfErr result (λ fault. fault ≢ LexFault.NoMemory → tokens_with origin file.now ≡ Err fault) }
+    ensures fault { IfErr result (λ fault. fault ≢ LexFault.NoMemory → tokens_with origin file.now
+        ≡ Err fault) }
 {
     if file.len() > FILE_LIMIT {
         return Err(LexFault::TooLong);
@@ -86,12 +89,14 @@ fn scan(
     requires bytes { bytes.now ≡ without_splices file.now }
     requires room { origin.library ≡ false → origin.line + length file.now < 2 ^ 32 }
     requires small { length bytes.now < 2 ^ 32 }
-    ensures list { IfOk result (λ list. tokens_from origin.library last (lines_of origin.library origin.line file.now) 0 true 0 bytes.now ≡ Ok list.items) }
+    ensures list { IfOk result
+        (λ list. tokens_from origin.library last (lines_of origin.library origin.line file.now) 0 true 0 bytes.now ≡ Ok list.items) }
     ensures cut { IfOk result (λ list. IsCutInto 0 bytes.now list.items) }
     ensures within { IfOk result (λ list. IsTrue (all_within (length bytes.now) list.items)) }
     ensures ends { IfOk result (λ list. IsTrue (ends_once list.items)) }
     ensures not_too_long { IfErr result (λ fault. fault ≢ LexFault.TooLong) }
-    ensures fault { IfErr result (λ fault. fault ≢ LexFault.NoMemory → tokens_from origin.library last (lines_of origin.library origin.line file.now) 0 true 0 bytes.now ≡ Err fault) }
+    ensures fault { IfErr result (λ fault. fault ≢ LexFault.NoMemory
+        → tokens_from origin.library last (lines_of origin.library origin.line file.now) 0 true 0 bytes.now ≡ Err fault) }
 {
     let mut list = Vec::new(alloc);
     let mut cursor = Cursor::at_start(origin, file);

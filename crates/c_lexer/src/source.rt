@@ -81,7 +81,8 @@ impl Cursor {
         requires within { to ≤ length (without_splices file.now) }
         ensures at { IsAt origin file.now result }
         ensures byte { result.byte ≡ to }
-        ensures line { to < length (without_splices file.now) → result.line ≡ slice_index (lines_of origin.library origin.line file.now) to }
+        ensures line { to < length (without_splices file.now) → result.line
+            ≡ slice_index (lines_of origin.library origin.line file.now) to }
     {
         let mut cursor = self;
         while cursor.byte < to {

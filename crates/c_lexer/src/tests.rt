@@ -206,6 +206,40 @@ fn a_megabyte_of_each(rt: HostRuntime) -> Result<(), Fail> {
     Ok(())
 }
 
+/// What a file becomes that is one part, a megabyte of a byte, and another part.
+fn count_of(alloc: Global, before: &[u8], byte: &[u8], after: &[u8]) -> Result<String, AllocError> {
+    let mut file = Vec::from_slice(alloc, before)?;
+    for _ in 0..1_048_570u32 {
+        file.extend_from_slice(byte)?;
+    }
+    file.extend_from_slice(after)?;
+    match lex(alloc, &file) {
+        Ok(tokens) => {
+            let count = tokens.list.len();
+            format!(in alloc; "{count}")
+        }
+        Err(fault) => format!(in alloc; "{fault:?}"),
+    }
+}
+
+/// No call goes deeper with each byte: the stack would not hold a megabyte of them.
+#[test]
+fn a_megabyte_in_one_piece(rt: HostRuntime) -> Result<(), Fail> {
+    let table: [(&str, &[u8], &[u8], &[u8], &str); 6] = [
+        ("a comment", b"/*", b"x", b"*/", "1"),
+        ("a comment without its end", b"/*", b"*", b"", "Unclosed(1)"),
+        ("a line comment", b"//", b"x", b"\n", "1"),
+        ("a text", b"\"", b"x", b"\"", "2"),
+        ("a text without its end", b"\"", b"x", b"", "Unclosed(1)"),
+        ("a number", b"", b"1", b"", "Literal(1)"),
+    ];
+    for (name, before, byte, after, want) in table {
+        let got = count_of(rt.alloc(), before, byte, after)?;
+        assert_eq!(rt; got.as_str(), want, "{name}");
+    }
+    Ok(())
+}
+
 #[test]
 fn each_punctuator(rt: HostRuntime) -> Result<(), Fail> {
     let all =
