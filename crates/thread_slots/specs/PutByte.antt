@@ -99,10 +99,23 @@ bytes_after byte (LoadWord index) answer bytes = bytes
 bytes_after byte (TakeWord index) answer bytes = if answer == 0 then bytes ++ byte ∷ [] else bytes
 bytes_after byte (StoreHint index) answer bytes = bytes
 
--- it gives up only where all output words are taken
-abbrev pub IsFullAt : Layout → List ℕ → PutOut → Type 0
-IsFullAt l bytes (Ok done) = Unit {0}
-IsFullAt l bytes (Err reason) = (reason ≡ OutputLimit) × (length bytes ≡ l.out_words)
+-- how many bytes the piece has put out: one from the exchange that wins on
+unfoldable pub bytes_put : PutStage → ℕ
+bytes_put LoadHint = 0
+bytes_put (LoadWord index) = 0
+bytes_put (TakeWord index) = 0
+bytes_put (StoreHint index) = 1
+
+-- a step at this stage, where `bytes` are put out before it and `after` then, puts as many more out
+-- as make it so many that the piece has put out
+abbrev pub MakesPut : List ℕ → List ℕ → PutStage → ℕ → Type 0
+MakesPut bytes after stage count = length after + bytes_put stage ≡ length bytes + count
+
+-- it ends well with one byte put out, and gives up with none, only where all output words are taken
+abbrev pub IsPut : Layout → List ℕ → List ℕ → PutStage → PutOut → Type 0
+IsPut l bytes after stage (Ok done) = MakesPut bytes after stage 1
+IsPut l bytes after stage (Err reason) =
+    MakesPut bytes after stage 0 × (reason ≡ OutputLimit) × (length bytes ≡ l.out_words)
 
 -- the operation of its next step, on a part, and the bytes that are put out after it
 abbrev pub put_op_in : Layout → PutByte → WordOp
@@ -111,13 +124,20 @@ put_op_in l piece = put_op piece.byte piece.stage (place_of l (put_part piece.st
 abbrev pub bytes_then : Layout → List ℕ → List ℕ → PutByte → List ℕ
 bytes_then l words bytes piece = bytes_after piece.byte piece.stage (answer_of (put_op_in l piece) words) bytes
 
+-- what holds where it goes on: the output is in order, and it has the same byte to put out
+pub record GoesOn (l : Layout) (left bytes after : List ℕ) (piece next : PutByte) : Type 0 where
+  pub written : IsWritten l left after
+  pub of_output : OfOutput l after next
+  pub byte_is : next.byte ≡ piece.byte
+  pub makes : MakesPut bytes after piece.stage (bytes_put next.stage)
+
 -- one step, where these bytes are put out
 abbrev pub PutSteps : Layout → List ℕ → List ℕ → PutByte → Type 0
 PutSteps l words bytes piece =
     Steps put_work put_left words piece (put_op_in l piece) (λ word left. ChangesOnly l words left (put_part piece.stage) word)
-    (λ left next. IsWritten l left (bytes_then l words bytes piece) × OfOutput l (bytes_then l words bytes piece) next)
+    (λ left next. GoesOn l left bytes (bytes_then l words bytes piece) piece next)
     ⊥
-    (λ left out. IsWritten l left (bytes_then l words bytes piece) × IsFullAt l bytes out)
+    (λ left out. IsWritten l left (bytes_then l words bytes piece) × IsPut l bytes (bytes_then l words bytes piece) piece.stage out)
 
 -- ---- alone, and with any answers
 

@@ -17,18 +17,20 @@ ghost use Rattle.thread_slots.specs.BeginThread.{begin_thread, begin_work, begin
 ghost use Rattle.thread_slots.specs.Finish.{finish, finish_work, FinishSteps, IsEnded, OfExit};
 ghost use Rattle.thread_slots.specs.GetByte.{get_byte, get_work, GetsAlone, GetSteps, OfInput};
 ghost use Rattle.thread_slots.specs.Output.{IsWritten};
-ghost use Rattle.thread_slots.specs.PutByte.{put_byte, put_work, FoundTaken, OfOutput, PutsAlone, PutSteps};
+ghost use Rattle.thread_slots.specs.PutByte.{put_byte, put_work, bytes_put, FoundTaken, OfOutput, PutsAlone, PutSteps};
 ghost use Rattle.thread_slots.specs.declared.begin_thread.BeginThread.{BeginThread};
 ghost use Rattle.thread_slots.specs.declared.finish.Finish.{Finish};
 ghost use Rattle.thread_slots.specs.declared.get_byte.GetByte.{GetByte};
 ghost use Rattle.thread_slots.specs.declared.put_byte.PutByte.{PutByte};
 
 /// One step of a `PutByte` keeps the output in order and changes one word. A byte that it puts out
-/// is the next one, and it gives up only where the output is full. What others do between two of
-/// its steps can only put more bytes out.
+/// is its own, and the next one. `bytes_put` is 0 at its start, and each step adds what it puts
+/// out. So it tells `Ok` where it has put out one byte, and gives up where it has put out none and
+/// the output is full. What others do between two of its steps can only put more bytes out.
 pub fn put_byte_step()
     ensures starts { (l : Layout) (bytes : List ℕ) (byte : ℕ) → byte < 256 →
-        OfOutput l bytes (put_byte l.slots l.out_words byte) }
+        let piece = put_byte l.slots l.out_words byte in
+        OfOutput l bytes piece × (bytes_put piece.stage ≡ 0) }
     ensures steps { (l : Layout) (words bytes : List ℕ) (piece : PutByte) → IsLaidOut l words →
         IsWritten l words bytes → OfOutput l bytes piece → PutSteps l words bytes piece }
     ensures keeps { (l : Layout) (bytes more : List ℕ) (piece : PutByte) →
@@ -57,7 +59,7 @@ pub fn put_byte_with_any_answers()
 
 /// One step of a `GetByte` tells the number of the next byte where its exchange wins, and `None`
 /// exactly where its load shows that the input has ended. It begins again only where its exchange
-/// was lost. Its fact is of the piece alone, so others keep it.
+/// was lost, and its length stays. Its fact is of the piece alone, so others keep it.
 pub fn get_byte_step()
     ensures starts { (length : ℕ) → length < 2 ^ 64 → OfInput (get_byte length) }
     ensures steps { (l : Layout) (words : List ℕ) (piece : GetByte) → IsLaidOut l words →
