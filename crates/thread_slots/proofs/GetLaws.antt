@@ -31,7 +31,7 @@ module _ (l : Layout) (words : List ℕ) (many : ℕ) (laid_out : IsLaidOut l wo
 
   -- ---- its step
   abbrev Known : ℕ → List ℕ → Option ℕ → Next (Option ℕ) (Option ℕ) → Type 0
-  Known before w found next = IsKnownOf (λ (p : GetByte). get_steps p.found) before (λ (p : GetByte). OfInput p × IfSome p.found (λ byte. got ≡ byte)) (IsLost got found) (IsGot l words w many) (with_stage at next)
+  Known before w found next = IsKnownOf (λ (p : GetByte). get_steps p.found) before (λ (p : GetByte). OfInput p × (p.length ≡ many) × IfSome p.found (λ byte. got ≡ byte)) (IsLost got found) (IsGot l words w many) (with_stage at next)
 
   pub step_at : (found : Option ℕ) → IfSome found (λ byte. byte < many) → GetSteps l words (at found)
   unfolding get_op get_next get_steps IsLost IsGot
@@ -42,7 +42,7 @@ module _ (l : Layout) (words : List ℕ) (many : ℕ) (laid_out : IsLaidOut l wo
     leaves = map_laws.one_part l words (Fixed InputCount) got laid_out tt;
     known =
         by_less (λ b. Known 1 (slice_set words place got) None (if b then record { piece = Some got; told = More } else record { piece = None; told = Done None })) got many
-        (λ below. ((record { length_fits = fits; below = below }, refl), omega arith))
+        (λ below. ((record { length_fits = fits; below = below }, refl, refl), omega arith))
         (λ end. end);
   }
   step_at (Some byte) below =
@@ -55,7 +55,7 @@ module _ (l : Layout) (words : List ℕ) (many : ℕ) (laid_out : IsLaidOut l wo
         known =
             by_equal (λ b. Known 0 (slice_set words place (if b then (byte + 1) % 2 ^ 64 else got)) (Some byte) (if b then record { piece = Some byte; told = Done (Some byte) } else record { piece = None; told = Waits })) got byte
             (λ same. (below, same, (map_laws.one_part l words (Fixed InputCount) ((byte + 1) % 2 ^ 64) laid_out tt).changed ∙ next))
-            (λ other. ((record { length_fits = fits; below = tt }, tt), other));
+            (λ other. ((record { length_fits = fits; below = tt }, refl, tt), other));
       }
 
   -- ---- alone

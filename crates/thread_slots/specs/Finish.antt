@@ -22,7 +22,7 @@ finish_work = record {
   takes = λ piece answer. record { piece = piece; told = Done (answer == exit_code Unset) };
 }
 
--- the word is an exit word, and not the unset one
+-- the word is below 2^64 and not the unset one; the piece asks no more of an exit word
 pub record OfExit (piece : Finish) : Type 0 where
   pub fits : piece.word < 2 ^ 64
   pub is_set : piece.word ≢ exit_code Unset

@@ -56,11 +56,11 @@ IsGot l words left length None = length ≤ word_at l words (Fixed InputCount)
 IsGot l words left length (Some byte) =
     (byte < length) × (word_at l words (Fixed InputCount) ≡ byte) × (word_at l left (Fixed InputCount) ≡ byte + 1)
 
--- one step; a number that it has found is that of the load
+-- one step; where it goes on, its length stays, and a number that it has found is that of the load
 abbrev pub GetSteps : Layout → List ℕ → GetByte → Type 0
 GetSteps l words piece =
     Steps get_work (λ p. get_steps p.found) words piece (get_op piece.found (place_of l (Fixed InputCount))) (λ word left. ChangesOnly l words left (Fixed InputCount) word)
-    (λ left next. OfInput next × IfSome next.found (λ byte. word_at l words (Fixed InputCount) ≡ byte))
+    (λ left next. OfInput next × (next.length ≡ piece.length) × IfSome next.found (λ byte. word_at l words (Fixed InputCount) ≡ byte))
     (IsLost (word_at l words (Fixed InputCount)) piece.found)
     (λ left out. IsGot l words left piece.length out)
 
