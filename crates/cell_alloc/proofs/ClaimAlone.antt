@@ -1,5 +1,5 @@
 -- A claim alone.
-use Rattle.std.proofs.Common.{◌≡◌, ◌≢◌, ℕ, ◌+◌, ◌-◌, ◌<◌, Bool, List, Option, Some, None, inl, inr, if◌then◌else◌, slice_set, refl, sym, subst, arith}
+use Rattle.std.proofs.Common.{◌≡◌, ◌≢◌, ℕ, ◌+◌, ◌-◌, ◌<◌, Bool, List, Option, Some, None, inl, inr, if◌then◌else◌, slice_set, refl, sym, ap, subst, arith}
 use Rattle.std.proofs.lemmas.Bool.{cases_lt, eq-eqb}
 use Rattle.std.proofs.lemmas.List.{set-get_or}
 use Rattle.heap_words.specs.Alone.{EndsAlone}
@@ -16,7 +16,7 @@ use Rattle.cell_alloc.specs.declared.claim.Claim.{Claim}
 use Rattle.cell_alloc.specs.declared.claim.ClaimStage.{ClaimStage}
 use Rattle.cell_alloc.specs.declared.claim.ClaimStage.TheVariants.{Looking, Taking}
 use Rattle.cell_alloc.specs.Claim.{claim, claim_at, claim_place, claim_op, pass_over, take_free, claim_work, OfClass}
-use Rattle.cell_alloc.specs.Claims.{ClaimsAlone}
+use Rattle.cell_alloc.specs.Claims.{ClaimsAlone, ClaimsCell, IsFirstFree}
 use Rattle.cell_alloc.proofs.ClaimSteps.{place_at, wants_at}
 
 module _ (l : Layout) (words : List ℕ) (class : ℕ) (collect : Collect) (laid_out : IsLaidOut l words) where
@@ -109,3 +109,24 @@ module _ (l : Layout) (words : List ℕ) (class : ℕ) (collect : Collect) (laid
 
   pub ends : OfClass l class (claim l class collect) → EndsAlone claim_work (cells + 1) (claim l class collect) words (ClaimsAlone l words class)
   ends is = ends_alone claim_work left Holds Ends step (cells + 1) (claim l class collect) words (0, Looking, refl, record { stays = refl; in_class = is.in_class; first = λ before below. absurd (omega (arith, below)); free = tt }) (omega arith)
+
+module _ (l : Layout) (words : List ℕ) (class cell : ℕ) (is : IsFirstFree l words class cell) where
+  -- there is one first free cell
+  same_cell : (other : ℕ) → IsFirstFree l words class other → other ≡ cell
+  same_cell other is_other = elim (cases_lt other cell) [
+    | inl before ↦ absurd (is.first other before is_other.free)
+    | inr past ↦ elim (cases_lt cell other) [
+      | inl before ↦ absurd (is_other.first cell before is.free)
+      | inr behind ↦ omega (arith, past, behind)
+    ]
+  ]
+
+  -- where it is free it is claimed
+  taken_of : (out : Option ℕ) (left : List ℕ) → ClaimsAlone l words class out left → ClaimsCell l words class cell out left
+  taken_of None left (full, stays) = absurd (full.none_free cell is.in_class is.free)
+  taken_of (Some place) left (other, is_other, place_is, changes) = subst (λ n. ClaimsCell l words class n (Some place) left) (same_cell other is_other) (ap Some place_is, changes)
+
+  pub ends_taken : (collect : Collect) → IsLaidOut l words → OfClass l class (claim l class collect) → EndsAlone claim_work ((class_at l.classes class).1 + 1) (claim l class collect) words (ClaimsCell l words class cell)
+  ends_taken collect laid_out of_class =
+      let run = ends l words class collect laid_out of_class in
+      record { out = run.out; left = run.left; finishes = run.finishes; holds = taken_of run.out run.left run.holds }

@@ -39,11 +39,14 @@ module _ (l : Layout) (words : List ℕ) (class : ℕ) (collect : Collect) (laid
   abbrev state : ℕ → ℕ
   state cell = state_at l words (Cell class cell)
 
-  of : (cell : ℕ) (stage : ClaimStage) → IsCell l.classes class cell → OfClass l class (piece_at cell stage)
-  of cell stage is = record { in_class = is; first_is = refl; size_is = refl; cells_are = refl }
+  abbrev Keeps : Claim → Type 0
+  Keeps piece = OfClass l class piece × (piece.collect ≡ collect)
+
+  of : (cell : ℕ) (stage : ClaimStage) → IsCell l.classes class cell → Keeps (piece_at cell stage)
+  of cell stage is = (record { in_class = is; first_is = refl; size_is = refl; cells_are = refl }, refl)
 
   abbrev Known : ℕ → List ℕ → ℕ → ClaimStage → Next Claim (Option ℕ) → Type 0
-  Known before w cell stage next = IsKnownOf claim_left before (λ p. OfClass l class p) ⊥ (λ out. IsClaimOut l words w class cell stage out) next
+  Known before w cell stage next = IsKnownOf claim_left before (λ p. Keeps p) ⊥ (λ out. IsClaimOut l words w class (piece_at cell stage) out) next
 
   -- a cell that isn't free is passed over
   passes : (before : ℕ) (w : List ℕ) (cell : ℕ) (stage : ClaimStage) → IsCell l.classes class cell → w ≡ words → state cell ≢ 0 → 2 * (cells - cell) - 2 ≤ before → Known before w cell stage (pass_over (piece_at cell stage))
@@ -51,7 +54,7 @@ module _ (l : Layout) (words : List ℕ) (class : ℕ) (collect : Collect) (laid
   passes before w cell stage is stays not_free few =
       by_less (λ b. Known before w cell stage (if b then record { piece = piece_at (cell + 1) Looking; told = More } else record { piece = piece_at cell stage; told = Done None })) (cell + 1) cells
       (λ more. (of (cell + 1) Looking (record { class_in_range = is.class_in_range; cell_in_range = more }), omega (arith, few, more)))
-      (λ last. (omega (arith, last, is.cell_in_range), not_free, stays))
+      (λ last. (stays, λ _. (omega (arith, last, is.cell_in_range), not_free)))
 
   steps_at : (cell : ℕ) (stage : ClaimStage) → IsCell l.classes class cell → ClaimSteps l words class (piece_at cell stage)
   unfolding claim_op take_free steps_from IsClaimOut

@@ -10,6 +10,7 @@ use Rattle.object_header.specs.Contents.{ChangesOnly, state_at}
 use Rattle.object_header.specs.WordMap.{Layout, Cell, Header, IsCell, cell_size, class_at, place_of, place_of_site, place_of_header}
 use Rattle.object_header.specs.declared.codings.CellState.TheVariants.{Free, Claimed}
 use Rattle.object_header.specs.declared.codings.Collect.{Collect}
+use Rattle.object_header.specs.declared.codings.Collect.TheVariants.{Never}
 use Rattle.object_header.specs.declared.words.HeaderWord.TheVariants.{State}
 use Rattle.cell_alloc.specs.declared.claim.Claim.{Claim}
 use Rattle.cell_alloc.specs.declared.claim.ClaimStage.{ClaimStage}
@@ -73,17 +74,19 @@ pub record OfClass (l : Layout) (class : ℕ) (piece : Claim) : Type 0 where
   pub size_is : piece.size ≡ cell_size (class_at l.classes class)
   pub cells_are : piece.cells ≡ (class_at l.classes class).1
 
--- it tells none at the last cell alone, where this look found that it isn't free, and changes no
--- word; it tells a place where its exchange found this cell free and made it a claimed one
-unfoldable pub IsClaimOut : Layout → List ℕ → List ℕ → ℕ → ℕ → ClaimStage → Option ℕ → Type 0
-IsClaimOut l words left class cell stage None =
-    (cell + 1 ≡ (class_at l.classes class).1) × (state_at l words (Cell class cell) ≢ state_code Free) × (left ≡ words)
-IsClaimOut l words left class cell stage (Some place) =
-    (stage ≡ Taking) × (place ≡ place_of_site l (Cell class cell)) × (state_at l words (Cell class cell) ≡ state_code Free)
-    × ChangesOnly l words left (Header (Cell class cell) State) (state_code Claimed)
+-- it changes no word where it tells none, and where nothing is ever collected it tells it at the
+-- last cell alone, where this look found that it isn't free; it tells a place where its exchange
+-- found this cell free and made it a claimed one
+unfoldable pub IsClaimOut : Layout → List ℕ → List ℕ → ℕ → Claim → Option ℕ → Type 0
+IsClaimOut l words left class piece None =
+    (left ≡ words)
+    × (piece.collect ≡ Never → (piece.cell + 1 ≡ (class_at l.classes class).1) × (state_at l words (Cell class piece.cell) ≢ state_code Free))
+IsClaimOut l words left class piece (Some place) =
+    (piece.stage ≡ Taking) × (place ≡ place_of_site l (Cell class piece.cell)) × (state_at l words (Cell class piece.cell) ≡ state_code Free)
+    × ChangesOnly l words left (Header (Cell class piece.cell) State) (state_code Claimed)
 
--- one step
+-- one step; where it goes on, it stays in its class and keeps its `collect`
 abbrev pub ClaimSteps : Layout → List ℕ → ℕ → Claim → Type 0
 ClaimSteps l words class piece =
     Steps claim_work claim_left words piece (claim_op piece.stage (place_of l (Header (Cell class piece.cell) State))) (λ word left. ChangesOnly l words left (Header (Cell class piece.cell) State) word)
-    (λ left next. OfClass l class next) ⊥ (λ left out. IsClaimOut l words left class piece.cell piece.stage out)
+    (λ left next. OfClass l class next × (next.collect ≡ piece.collect)) ⊥ (λ left out. IsClaimOut l words left class piece out)

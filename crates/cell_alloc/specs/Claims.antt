@@ -19,8 +19,13 @@ pub record IsFull (l : Layout) (words : List ℕ) (class : ℕ) : Type 0 where
   pub in_range : class < length l.classes
   pub none_free : (cell : ℕ) → IsCell l.classes class cell → state_at l words (Cell class cell) ≢ state_code Free
 
--- what a claim tells and leaves: the first free cell, which is claimed then, or none where none is
--- free
+-- what a claim of this cell tells and leaves
+abbrev pub ClaimsCell : Layout → List ℕ → ℕ → ℕ → Option ℕ → List ℕ → Type 0
+ClaimsCell l words class cell out left =
+    (out ≡ Some (place_of_site l (Cell class cell))) × ChangesOnly l words left (Header (Cell class cell) State) (state_code Claimed)
+
+-- what a claim tells and leaves where nothing is ever collected: the first free cell, which is
+-- claimed then, or none where none is free
 abbrev pub ClaimsAlone : Layout → List ℕ → ℕ → Option ℕ → List ℕ → Type 0
 ClaimsAlone l words class None left = IsFull l words class × (left ≡ words)
 ClaimsAlone l words class (Some place) left =

@@ -11,14 +11,15 @@ ghost use Rattle.object_header.specs.WordMap.{Layout, Site, Cell, IsSite, IsWell
 ghost use Rattle.object_header.specs.declared.codings.Collect.{Collect};
 ghost use Rattle.object_header.specs.declared.codings.Kind.{Kind};
 ghost use Rattle.cell_alloc.specs.Claim.{claim, claim_work, ClaimSteps, OfClass};
-ghost use Rattle.cell_alloc.specs.Claims.{ClaimsAlone, PassesOver, Wins};
+ghost use Rattle.cell_alloc.specs.Claims.{ClaimsAlone, ClaimsCell, IsFirstFree, PassesOver, Wins};
 ghost use Rattle.cell_alloc.specs.Publish.{publish, publish_work, IsFilled, OfSite, PublishSteps};
 ghost use Rattle.cell_alloc.specs.declared.claim.Claim.{Claim};
 ghost use Rattle.cell_alloc.specs.declared.publish.Publish.{Publish};
 
-/// One step of a `Claim` is on the state word of the cell that it is at. It tells `None` only at
-/// the last cell of its class, which this step found not free, and a place only where its exchange
-/// made this cell a claimed one. Its fact is of the piece alone, so others keep it.
+/// One step of a `Claim` is on the state word of the cell that it is at. It tells a place only where
+/// its exchange made this cell a claimed one. A step that tells `None` changes no word. Where
+/// nothing is ever collected, it tells `None` only at the last cell of its class, which this step
+/// found not free. Its fact is of the piece alone, so others keep it.
 pub fn claim_step()
     ensures starts { (l : Layout) (class : ℕ) (collect : Collect) → IsWellFormed l →
         class < length l.classes → OfClass l class (claim l class collect) }
@@ -27,11 +28,16 @@ pub fn claim_step()
 {}
 
 /// Run alone, a `Claim` claims the first free cell of its class, tells its place, and changes no
-/// other word. Where none is free, it tells `None` and changes no word at all.
+/// other word. Where none is free and nothing is ever collected, it tells `None` and changes no word
+/// at all.
 pub fn claim_alone()
-    ensures { (l : Layout) (words : List ℕ) (class : ℕ) (collect : Collect) → IsLaidOut l words →
-        class < length l.classes →
+    ensures taken { (l : Layout) (words : List ℕ) (class cell : ℕ) (collect : Collect) →
+        IsLaidOut l words → IsFirstFree l words class cell →
         EndsAlone claim_work ((class_at l.classes class).1 + 1) (claim l class collect) words
+        (ClaimsCell l words class cell) }
+    ensures never { (l : Layout) (words : List ℕ) (class : ℕ) → IsLaidOut l words →
+        class < length l.classes →
+        EndsAlone claim_work ((class_at l.classes class).1 + 1) (claim l class Collect.Never) words
         (ClaimsAlone l words class) }
 {
     claim_step();
