@@ -1,0 +1,4 @@
+pub mod Meanings
+pub mod Entries
+pub mod Ahead
+pub mod Loops

@@ -1,0 +1,12 @@
+pub mod Laws
+pub mod Many
+pub mod Far
+pub mod Carry
+pub mod Look
+pub mod Agree
+pub mod Unbounded
+pub mod Sets
+pub mod Whole
+pub mod Openings
+pub mod Good
+pub mod Fields

@@ -1,0 +1,6 @@
+pub mod Terminals
+pub mod Scopes
+pub mod Kinds
+pub mod Part
+pub mod Reading
+pub mod Production

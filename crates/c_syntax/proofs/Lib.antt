@@ -1,0 +1,4 @@
+pub mod Expressions
+pub mod Declarators
+pub mod Levels
+pub mod Claimed
