@@ -16,8 +16,8 @@ ghost use Rattle.cell_alloc.specs.Publish.{publish, publish_work, IsFilled, OfSi
 ghost use Rattle.cell_alloc.specs.declared.claim.Claim.{Claim};
 ghost use Rattle.cell_alloc.specs.declared.publish.Publish.{Publish};
 
-/// One step of a `Claim` is on the state word of the cell that it is at. It tells a place only where
-/// its exchange made this cell a claimed one. A step that tells `None` changes no word. Where
+/// One step of a `Claim` is on the state word of the cell that it is at. It tells a place only
+/// where its exchange made this cell a claimed one. A step that tells `None` changes no word. Where
 /// nothing is ever collected, it tells `None` only at the last cell of its class, which this step
 /// found not free. Its fact is of the piece alone, so others keep it.
 pub fn claim_step()
@@ -28,8 +28,8 @@ pub fn claim_step()
 {}
 
 /// Run alone, a `Claim` claims the first free cell of its class, tells its place, and changes no
-/// other word. Where none is free and nothing is ever collected, it tells `None` and changes no word
-/// at all.
+/// other word. Where none is free and nothing is ever collected, it tells `None` and changes no
+/// word at all.
 pub fn claim_alone()
     ensures taken { (l : Layout) (words : List ℕ) (class cell : ℕ) (collect : Collect) →
         IsLaidOut l words → IsFirstFree l words class cell →
