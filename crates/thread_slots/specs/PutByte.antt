@@ -1,5 +1,5 @@
 -- A byte of the output, step by step.
-use Rattle.std.specs.Prelude.{◌≡◌, ◌≢◌, ◌⊎◌, ℕ, ◌+◌, ◌-◌, ◌*◌, ◌<◌, ◌≤◌, ◌==◌, nat_lt, List, [], ◌∷◌, ◌++◌, length, Result, Ok, Err, if◌then◌else◌}
+use Rattle.std.specs.Prelude.{◌≡◌, ◌≢◌, ◌⊎◌, ℕ, ◌+◌, ◌-◌, ◌*◌, ◌<◌, ◌≤◌, ◌==◌, nat_lt, List, [], ◌∷◌, ◌++◌, length, All, Result, Ok, Err, if◌then◌else◌}
 use Rattle.filc_num.specs.declared.reason.Reason.{Reason}
 use Rattle.filc_num.specs.declared.reason.Reason.TheVariants.{OutputLimit}
 use Rattle.heap_words.specs.Answers.{Answered}
@@ -152,3 +152,29 @@ PutsAlone l words bytes byte (Err reason) left =
 pub record FoundTaken (slots byte index : ℕ) (made : Answered) : Type 0 where
   pub looks : (made.op ≡ Load (place_of_output slots index)) ⊎ (made.op ≡ Exchange (place_of_output slots index) 0 (byte + 1))
   pub taken : made.answer ≢ 0
+
+-- an operation that changes no word with this answer: a load, or an exchange that is lost
+abbrev pub OnlyLooks : WordOp → ℕ → Type 0
+OnlyLooks (Load place) answer = Unit {0}
+OnlyLooks (Exchange place expected new) answer = answer ≢ expected
+OnlyLooks other answer = ⊥
+
+abbrev pub LeavesWords : Answered → Type 0
+LeavesWords made = OnlyLooks made.op made.answer
+
+-- the exchange that wins this output word for the byte, and the store of the hint behind it
+abbrev pub wins : ℕ → ℕ → ℕ → Answered
+wins slots byte index = record { op = Exchange (place_of_output slots index) 0 (byte + 1); answer = 0 }
+
+abbrev pub stores : ℕ → ℕ → Answered
+stores index answer = record { op = Store (place_of_fixed OutputHint) (index + 1); answer = answer }
+
+-- these operations change no word, but for the last two: they win a free output word for the byte,
+-- and store the hint behind it
+pub record PutsOnce (slots out_words byte : ℕ) (made : List Answered) : Type 0 where
+  pub index : ℕ
+  pub is_output : index < out_words
+  pub answer : ℕ
+  pub before : List Answered
+  pub looks : All LeavesWords before
+  pub made_are : made ≡ before ++ (wins slots byte index ∷ (stores index answer ∷ []))

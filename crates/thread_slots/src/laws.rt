@@ -3,7 +3,7 @@
 //! A step law says what one step of a piece does, whatever other threads did before: `starts`, that
 //! its fact holds at the start; `steps`, what a step does where the fact holds; `keeps`, that what
 //! others may change keeps the fact.
-ghost use Rattle.std.specs.Prelude.{◌≡◌, ◌≢◌, ◌↔◌, ℕ, ◌+◌, ◌^◌, ◌<◌, ◌≤◌, List, ◌∷◌, length, Err, None, true, false};
+ghost use Rattle.std.specs.Prelude.{◌≡◌, ◌≢◌, ◌↔◌, ℕ, ◌+◌, ◌^◌, ◌<◌, ◌≤◌, List, ◌∷◌, length, All, Ok, Err, None, true, false};
 ghost use Rattle.std.specs.List.{Any};
 ghost use Rattle.filc_num.specs.declared.reason.Reason.TheVariants.{OutputLimit};
 ghost use Rattle.heap_words.specs.Alone.{EndsAlone};
@@ -17,7 +17,7 @@ ghost use Rattle.thread_slots.specs.BeginThread.{begin_thread, begin_work, begin
 ghost use Rattle.thread_slots.specs.Finish.{finish, finish_work, FinishSteps, IsEnded, OfExit};
 ghost use Rattle.thread_slots.specs.GetByte.{get_byte, get_work, GetsAlone, GetSteps, OfInput};
 ghost use Rattle.thread_slots.specs.Output.{IsWritten};
-ghost use Rattle.thread_slots.specs.PutByte.{put_byte, put_work, bytes_put, FoundTaken, OfOutput, PutsAlone, PutSteps};
+ghost use Rattle.thread_slots.specs.PutByte.{put_byte, put_work, bytes_put, FoundTaken, LeavesWords, OfOutput, PutsAlone, PutsOnce, PutSteps};
 ghost use Rattle.thread_slots.specs.declared.begin_thread.BeginThread.{BeginThread};
 ghost use Rattle.thread_slots.specs.declared.finish.Finish.{Finish};
 ghost use Rattle.thread_slots.specs.declared.get_byte.GetByte.{GetByte};
@@ -47,10 +47,19 @@ pub fn put_byte_alone()
         (PutsAlone l words bytes byte) }
 {}
 
-/// Whatever other threads do in between, a `PutByte` gives up only where a load or an exchange of
-/// its own found each output word taken, from the hint that it loaded on.
+/// Whatever other threads do in between, a `PutByte` that tells `Ok` has won one exchange, which put
+/// its byte into a free output word, and has then stored the hint behind that word. It changed no
+/// other word. One that gives up has changed no word at all, and a load or an exchange of its own
+/// found each output word taken, from the hint that it loaded on.
 pub fn put_byte_with_any_answers()
-    ensures { (slots out_words byte hint index : ℕ) (answers : List ℕ) →
+    ensures puts_once { (slots out_words byte : ℕ) (answers : List ℕ) →
+        TellsAfter put_work (put_byte slots out_words byte) answers (Ok tt) →
+        PutsOnce slots out_words byte
+        (operations_at put_work (put_byte slots out_words byte) answers) }
+    ensures puts_none { (slots out_words byte : ℕ) (answers : List ℕ) →
+        TellsAfter put_work (put_byte slots out_words byte) answers (Err OutputLimit) →
+        All LeavesWords (operations_at put_work (put_byte slots out_words byte) answers) }
+    ensures found_taken { (slots out_words byte hint index : ℕ) (answers : List ℕ) →
         TellsAfter put_work (put_byte slots out_words byte) (hint ∷ answers) (Err OutputLimit) →
         hint ≤ index → index < out_words →
         Any (FoundTaken slots byte index)
