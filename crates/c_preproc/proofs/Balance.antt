@@ -1,11 +1,11 @@
 -- The balance of groups: the open `if`s as the code has them, innermost last.
-use Rattle.std.proofs.Common.{◌≡◌, ℕ, suc, ◌+◌, ◌<◌, ◌||◌, List, [], ◌∷◌, ◌++◌, Bool, true, false, cond, refl, ap, sym, ◌∙◌, arith, length, get_or, map, take, drop, Option, Some, None}
+use Rattle.std.proofs.Common.{◌≡◌, ℕ, ◌<◌, ◌||◌, List, [], ◌∷◌, ◌++◌, Bool, true, false, cond, refl, ap, sym, ◌∙◌, arith, length, get_or, map, take, drop, Option, Some, None}
 use Rattle.std.specs.Prelude.{reverse}
 use Rattle.std.proofs.lemmas.List.{map-append, reverse-append}
 use Rattle.c_lexer.specs.declared.token.Token.{Token}
 use Rattle.c_preproc.specs.Directives.{Plain, Directive, Command, command_of, blocks_of}
 use Rattle.c_preproc.specs.Groups.{Open as DefinedOpen, earlier, outermost, part, nested, unbalanced_line}
-use Rattle.c_preproc.specs.Nesting.{after_step, open_of, opens_of}
+use Rattle.c_preproc.specs.Code.Nesting.{after_step, open_of, opens_of}
 use Rattle.c_preproc.proofs.Steps.{reverse_last}
 use Rattle.c_preproc.specs.declared.groups.Open.{Open}
 use Rattle.c_preproc.specs.declared.groups.Step.{Step}

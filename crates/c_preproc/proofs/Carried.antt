@@ -1,17 +1,16 @@
 -- The blocks one after another: what a step leaves alone, and the outcome of what is left.
-use Rattle.std.proofs.Common.{codes, ◌≡◌, ℕ, zero, suc, ◌+◌, ◌&&◌, ◌||◌, List, [], ◌∷◌, ◌++◌, Bool, true, false, not, cond, refl, ap, sym, ◌∙◌, subst, arith, length, take, drop, Option, Some, None, Result, Ok, Err}
+use Rattle.std.proofs.Common.{codes, ◌≡◌, ℕ, ◌&&◌, ◌||◌, List, [], ◌∷◌, Bool, true, false, not, cond, refl, ap, sym, ◌∙◌, subst, take, drop, Option, Some, None, Result, Ok, Err}
 use Rattle.std.proofs.lemmas.Bool.{and_parts}
 use Rattle.std.specs.List.{list_all, filter}
-use Rattle.std.specs.Option.{option_map}
 use Rattle.c_lexer.specs.declared.token.Token.{Token}
 use Rattle.c_preproc.specs.declared.fault.PreFault.{PreFault}
 use Rattle.c_preproc.specs.declared.fault.PreFault.TheVariants as fault
-use Rattle.c_preproc.specs.Texts.{text_of, same_text, same_tokens, same_kind, is_name, is_mark}
+use Rattle.c_preproc.specs.Texts.{text_of, same_tokens, same_kind, is_name, is_mark}
 use Rattle.c_lexer.specs.declared.token.TokenKind.TheVariants.{End}
-use Rattle.c_preproc.specs.Directives.{Block, Plain, Directive, blocks_of, rest_of_line, Command, Nothing, Include, Define, Undefine, If, IfDefined, IfUndefined, ElseIf, Else, EndIf, Pragma, Unknown, command_of}
-use Rattle.c_preproc.specs.Macros.{Macro, macro_of, without}
+use Rattle.c_preproc.specs.Directives.{Block, Plain, Directive, blocks_of, Command, Nothing, Include, Define, Undefine, If, IfDefined, IfUndefined, ElseIf, Else, EndIf, Pragma, Unknown, command_of}
+use Rattle.c_preproc.specs.Macros.{Macro, macro_of}
 use Rattle.c_preproc.specs.Outcomes.{and_then}
-use Rattle.c_preproc.specs.Expansion.{Group, Outside, Waiting, Active, Past, State, after_block, after_blocks, after_directive, after_group, after_token, bare, carry_out, condition_of, define, defined_again, else_if, else_of, end_if, group_if, has_parameters, hash_line, is_active, is_defined, no_hash, only_name, open_if, or_directive, pass_over, undefine, with_expansion, with_groups}
+use Rattle.c_preproc.specs.Expansion.{Group, Outside, Waiting, Active, Past, State, after_block, after_blocks, after_directive, after_group, after_token, bare, carry_out, condition_of, define, defined_again, else_if, else_of, end_if, group_if, has_parameters, hash_line, is_active, no_hash, only_name, or_directive, pass_over, with_expansion, with_groups}
 
 -- ---- one block in front
 

@@ -7,7 +7,7 @@ use Rattle.c_preproc.specs.declared.condition_mark.Mark.{Mark}
 use Rattle.c_preproc.specs.declared.condition_reader.Frame.{Frame}
 use Rattle.c_preproc.specs.declared.condition_reader.Whole.{Whole}
 use Rattle.c_preproc.specs.declared.condition_reader.Mode.TheVariants.{Wanted}
-use Rattle.c_preproc.specs.Reading.{State, state, top_floor, opened, settled, closed, waiting, after_settled, went_on, finished}
+use Rattle.c_preproc.specs.Code.Reading.{State, state, top_floor, opened, settled, closed, waiting, after_settled, went_on, finished}
 
 -- the last of the frames that are kept is the innermost
 pub reverse-push : (after before : List Frame) (frame : Frame) → after ≡ before ++ frame ∷ [] → reverse after ≡ frame ∷ reverse before

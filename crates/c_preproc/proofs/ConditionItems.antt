@@ -1,5 +1,5 @@
 -- The reader over tokens: a token without an item, or one that no expression goes on with, leaves no answer.
-use Rattle.std.proofs.Common.{◌≡◌, ℕ, zero, suc, ◌+◌, ◌<◌, ◌≤◌, Bool, List, [], ◌∷◌, length, reverse, drop, get_or, false, Option, Some, None, refl, ap, sym, ◌∙◌, add-one, drop-cons}
+use Rattle.std.proofs.Common.{◌≡◌, ℕ, ◌+◌, ◌<◌, ◌≤◌, Bool, List, [], ◌∷◌, length, reverse, drop, get_or, false, Option, Some, None, refl, ap, sym, ◌∙◌, add-one, drop-cons}
 use Rattle.std.proofs.lemmas.List.{drop_all}
 use Rattle.std.specs.Option.{option_map, option_and_then}
 use Rattle.c_lexer.specs.declared.token.Token.{Token}
@@ -11,7 +11,7 @@ use Rattle.c_preproc.specs.declared.condition_reader.Mode.{Mode}
 use Rattle.c_preproc.specs.declared.condition_reader.Mode.TheVariants.{Wanted}
 use Rattle.c_preproc.specs.Condition.{Item, item_of_kind, truth_of_items}
 use Rattle.c_preproc.specs.Expansion.{items_of}
-use Rattle.c_preproc.specs.Reading.{truth, item_as_read, State, state, taken, end_of}
+use Rattle.c_preproc.specs.Code.Reading.{truth, item_as_read, State, state, taken, end_of}
 use Rattle.c_preproc.proofs.ConditionSteps.{run}
 use Rattle.c_preproc.proofs.ConditionRuns.{run-truth}
 

@@ -12,7 +12,7 @@ use Rattle.c_preproc.specs.declared.condition_mark.Mark.{Mark as ReadMark}
 use Rattle.c_preproc.specs.declared.condition_mark.Mark.TheVariants as mark
 use Rattle.c_preproc.specs.Texts.{same_text}
 use Rattle.c_preproc.specs.Condition.{Tree, Plus, Minus, Complement, Not, Joint, Operator, BothJoint, EitherJoint, Entry, operators, joint_in, sign_of}
-use Rattle.c_preproc.specs.Reading.{mark_of_one, mark_of_two, mark_of, sign_in, operator_in}
+use Rattle.c_preproc.specs.Code.Reading.{mark_of_one, mark_of_two, mark_of, sign_in, operator_in}
 
 -- ---- texts
 

@@ -11,7 +11,7 @@ use Rattle.c_preproc.specs.declared.condition_reader.Frame.TheVariants.{Sign as 
 use Rattle.c_preproc.specs.declared.condition_reader.Mode.TheVariants.{Behind}
 use Rattle.c_preproc.specs.Texts.{same_text}
 use Rattle.c_preproc.specs.Condition.{Item, Operand, Mark, Tree, Choice, Joint, joined_by, Read, then_read, then_mark, Task, Level, Chain, sign_of, sign_level, signed as signed_read, choice, chained, read_tree, whole_tree, tree_of, value_of, truth_of_items}
-use Rattle.c_preproc.specs.Reading.{truth, signed, joined, chosen, mark_of, sign_in, operator_in, top_floor, whole, opened, beginning, state, waiting, went_on, finished}
+use Rattle.c_preproc.specs.Code.Reading.{truth, signed, joined, chosen, mark_of, sign_in, operator_in, top_floor, whole, opened, beginning, state, waiting, went_on, finished}
 use Rattle.c_preproc.proofs.ConditionMarks.{tree_sign, spelled_joint, joint_where, is_open, is_question, sign_of-mark, is_open-mark, is_question-mark, joint_in-mark, operator_in-high}
 use Rattle.c_preproc.proofs.ConditionValues.{value_of_tree, value_of_tree-constant, value_of_tree-sign, value_of_tree-joint, value_of_tree-choice}
 use Rattle.c_preproc.proofs.ConditionFrames.{opened_in}

@@ -13,7 +13,7 @@ use Rattle.c_preproc.specs.declared.condition_reader.Frame.TheVariants.{Sign as 
 use Rattle.c_preproc.specs.declared.condition_reader.Whole.{Whole}
 use Rattle.c_preproc.specs.declared.condition_reader.Mode.TheVariants.{Wanted, Behind}
 use Rattle.c_preproc.specs.Condition.{Item, Operand, Mark, Tree, Read, then_read, then_mark}
-use Rattle.c_preproc.specs.Reading.{truth, mark_of, sign_in, operator_in, item_as_read, floor_of, whole, settled, opened, opened_side, beginning, State, state, waiting, closed, first_some, after_settled, went_on, taken, finished, end_of}
+use Rattle.c_preproc.specs.Code.Reading.{truth, mark_of, sign_in, operator_in, item_as_read, floor_of, whole, settled, opened, opened_side, beginning, State, state, waiting, closed, first_some, after_settled, went_on, taken, finished, end_of}
 use Rattle.c_preproc.proofs.ConditionMarks.{spelled_joint, joint_where, is_open, is_close, is_question, is_colon, is_close-mark, is_colon-mark}
 use Rattle.c_preproc.proofs.ConditionValues.{value_of_tree}
 use Rattle.c_preproc.proofs.ConditionFrames.{opened_in, went_on-opens, went_on-top}

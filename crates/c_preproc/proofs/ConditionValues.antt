@@ -14,7 +14,7 @@ use Rattle.c_preproc.specs.declared.condition_value.Sign.TheVariants as sign
 use Rattle.c_preproc.specs.declared.condition_value.Joint.{Joint as ReadJoint}
 use Rattle.c_preproc.specs.declared.condition_value.Joint.TheVariants as joint
 use Rattle.c_preproc.specs.Condition.{Tree, Constant, Plus, Minus, Complement, Not, Binary, And, Or, Choice, joined_by, common_type, is_shift, operand_type, type_of, value_of}
-use Rattle.c_preproc.specs.Reading.{value, kind_of, truth, both, either, negated, signed, joined, chosen_bits, chosen}
+use Rattle.c_preproc.specs.Code.Reading.{value, kind_of, truth, both, either, negated, signed, joined, chosen_bits, chosen}
 use Rattle.c_preproc.proofs.ConditionMarks.{tree_sign, spelled_joint}
 
 abbrev is_u64 : IntType → Bool

@@ -1,5 +1,5 @@
 -- Conditions: the tokens in hand with each `defined` decided, before those of what is left; and expansions one behind another.
-use Rattle.std.proofs.Common.{codes, ◌≡◌, ℕ, zero, suc, ◌+◌, ◌<◌, ◌≤◌, List, [], ◌∷◌, ◌++◌, Bool, true, false, refl, ap, sym, ◌∙◌, subst, arith, length, drop, Option, Some, None, Result, Ok, Err, append_assoc}
+use Rattle.std.proofs.Common.{codes, ◌≡◌, ℕ, zero, suc, ◌+◌, ◌≤◌, List, [], ◌∷◌, ◌++◌, Bool, true, false, refl, ap, sym, ◌∙◌, length, drop, Option, Some, None, Result, Ok, Err, append_assoc}
 use Rattle.std.proofs.lemmas.List.{append-nil, drop_all}
 use Rattle.std.specs.Option.{option_map}
 use Rattle.c_lexer.specs.declared.token.Token.{Token}

@@ -1,12 +1,12 @@
 -- The steps that replacing a token takes: more than its macro's tokens take together.
-use Rattle.std.proofs.Common.{◌≡◌, ℕ, zero, suc, ◌+◌, ◌<◌, ◌≤◌, List, [], ◌∷◌, length, Option, Some, None, refl, ap, arith}
+use Rattle.std.proofs.Common.{◌≡◌, ℕ, zero, suc, ◌+◌, ◌≤◌, List, [], ◌∷◌, length, Option, Some, None, refl, arith}
 use Rattle.std.specs.List.{sum_by}
 use Rattle.std.specs.Option.{option_map_or}
 use Rattle.std.proofs.lemmas.List.Sums.{sum_by-cons}
 use Rattle.c_lexer.specs.declared.token.Token.{Token}
 use Rattle.c_preproc.specs.Texts.{text_of}
 use Rattle.c_preproc.specs.Macros.{Macro, body_for, without}
-use Rattle.c_preproc.specs.Expander.{effort, effort_of}
+use Rattle.c_preproc.specs.Code.Expander.{effort, effort_of}
 use Rattle.c_preproc.proofs.Depth.{length-body}
 
 sum_by_le : (f g : Token → ℕ) (tokens : List Token) → ((t : Token) → f t ≤ g t) → sum_by f tokens ≤ sum_by g tokens

@@ -1,7 +1,7 @@
 -- What an expanded list is made of: tokens of the list and of macros, and at its end the one End.
-use Rattle.std.proofs.Common.{codes, ◌≡◌, ℕ, zero, suc, ◌+◌, ◌-◌, ◌≤◌, ◌&&◌, List, [], ◌∷◌, ◌++◌, Bool, true, false, not, cond, nat_lt, nat_le, arith, length-append, refl, ap, sym, ◌∙◌, subst, length, map, take, Option, Some, None, Result, Ok, Err, ◌⊎◌, inl, inr, ⊎_elim}
+use Rattle.std.proofs.Common.{codes, ◌≡◌, ℕ, zero, suc, ◌+◌, ◌≤◌, ◌&&◌, List, [], ◌∷◌, ◌++◌, Bool, true, false, not, cond, nat_lt, nat_le, arith, length-append, refl, ap, sym, ◌∙◌, subst, length, map, take, Option, Some, None, Result, Ok, Err, ◌⊎◌, inl, inr, ⊎_elim}
 use Rattle.std.proofs.lemmas.Bool.{and_parts, le-leb, leb-true, ltb-false}
-use Rattle.std.specs.List.{filter, flat_map, list_all}
+use Rattle.std.specs.List.{flat_map, list_all}
 use Rattle.std.specs.Option.{option_map, option_map_or}
 use Rattle.c_lexer.specs.List.{all_within, is_end, ends_once}
 use Rattle.c_lexer.specs.declared.token.Token.{Token}
@@ -12,8 +12,7 @@ use Rattle.c_preproc.specs.declared.fault.PreFault.TheVariants as fault
 use Rattle.c_preproc.specs.Texts.{text_of, same_text, same_kind, is_name, is_mark}
 use Rattle.c_preproc.specs.Directives.{blocks_of, rest_of_line, command_of}
 use Rattle.c_preproc.specs.Macros.{Definitions, Macro, body_for, expansion_of_token, macro_of, placed_at, replacement, replacement_of, without}
-use Rattle.c_preproc.specs.Outcomes.{and_then}
-use Rattle.c_preproc.specs.Expansion.{State, after_blocks, after_directive, after_token, filc_macro, first_state, is_active, list_of, token_limit, with_digits, with_expansion}
+use Rattle.c_preproc.specs.Expansion.{State, after_blocks, after_directive, after_token, filc_macro, first_state, is_active, token_limit, with_digits, with_expansion}
 use Rattle.c_preproc.proofs.Lists.{and_false, all_append, all_take}
 use Rattle.c_preproc.proofs.Blocks.{take_while-front, take_while-pass, take_while-stop}
 use Rattle.c_preproc.proofs.Carried.{BodiesHold, Follows, Keeps, any_token, directive_bytes, directive_follows, kept, keeps_cond, keeps_then, or_mark, token_bytes}

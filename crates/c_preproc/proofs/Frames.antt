@@ -1,5 +1,5 @@
 -- Frames: what holds of those that are open after each step, and what they have still to give.
-use Rattle.std.proofs.Common.{◌≡◌, ℕ, zero, suc, ◌+◌, ◌<◌, ◌≤◌, Bool, true, false, IsTrue, List, [], ◌∷◌, ◌++◌, length, drop, take, Option, Some, None, refl, sym, ap, ◌∙◌, subst, arith, append_assoc, length-append}
+use Rattle.std.proofs.Common.{◌≡◌, ℕ, zero, suc, ◌+◌, ◌<◌, ◌≤◌, Bool, true, false, IsTrue, List, [], ◌∷◌, ◌++◌, length, drop, take, Some, refl, sym, ap, ◌∙◌, subst, arith, append_assoc, length-append}
 use Rattle.std.specs.List.{flat_map, sum_by}
 use Rattle.std.proofs.lemmas.Bool.{false≢true}
 use Rattle.std.proofs.lemmas.List.{take-append-le, drop-append-le, take-append-drop, drop_all, take_all, length-take-le}
@@ -7,9 +7,9 @@ use Rattle.std.proofs.lemmas.List.Sums.{sum_by-cons}
 use Rattle.c_lexer.specs.declared.token.Token.{Token}
 use Rattle.c_preproc.specs.declared.expander.Frame.{Frame}
 use Rattle.c_preproc.specs.Texts.{text_of}
-use Rattle.c_preproc.specs.Macros.{Macro, without, body_for, replacement_of}
-use Rattle.c_preproc.specs.Table.{IsIndexed, body_at, name_at}
-use Rattle.c_preproc.specs.Expander.{Setting, LeavesOut, NameYields, Yields, AreAt, AreTraced, AreWaiting, IsAt, IsBetween, IsOpen, but_for, effort_of, entries_of, entry_of, is_one_of, left_of, macros_inside, macros_of, replacements, taint, work_of}
+use Rattle.c_preproc.specs.Macros.{without, replacement_of}
+use Rattle.c_preproc.specs.Code.Table.{IsIndexed, body_at, name_at}
+use Rattle.c_preproc.specs.Code.Expander.{Setting, LeavesOut, NameYields, Yields, AreAt, AreTraced, AreWaiting, but_for, effort_of, entries_of, entry_of, is_one_of, left_of, macros_inside, macros_of, taint, work_of}
 use Rattle.std.specs.Option.{option_map}
 use Rattle.c_preproc.proofs.Efforts.{effort_inside}
 use Rattle.c_preproc.proofs.LeftOut.{body_there, but_for_open, entry_leads, goes, leaves_out_more, named_there}

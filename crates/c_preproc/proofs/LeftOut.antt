@@ -1,5 +1,5 @@
 -- Macros but for those that are hidden: what an entry's body is where some entries are left out.
-use Rattle.std.proofs.Common.{◌≡◌, ◌≢◌, ℕ, ◌<◌, length, ◌||◌, ◌==◌, Bool, true, false, cond, not, IsTrue, List, [], ◌∷◌, filter, Option, Some, None, IsSomeAnd, refl, sym, ap, ◌∙◌, subst, arith, eq-eqb}
+use Rattle.std.proofs.Common.{◌≡◌, ◌≢◌, ℕ, ◌<◌, length, ◌||◌, ◌==◌, Bool, true, false, cond, not, List, [], ◌∷◌, Option, Some, None, IsSomeAnd, refl, sym, ap, ◌∙◌, arith, eq-eqb}
 use Rattle.std.specs.List.{flat_map, slice_get}
 use Rattle.std.specs.Option.{option_map, option_map_or}
 use Rattle.std.proofs.lemmas.Bool.{false≢true}
@@ -11,8 +11,8 @@ use Rattle.c_lexer.specs.declared.token.Token.{Token}
 use Rattle.c_preproc.specs.declared.macros.Entry.{Entry}
 use Rattle.c_preproc.specs.Texts.{text_of, same_text, is_name}
 use Rattle.c_preproc.specs.Macros.{Macro, macro_of, without, body_for, replacement_of}
-use Rattle.c_preproc.specs.Table.{IsIndexed, body_at, name_at, name_of}
-use Rattle.c_preproc.specs.Expander.{Setting, LeavesOut, but_for, entry_of, is_one_of}
+use Rattle.c_preproc.specs.Code.Table.{IsIndexed, body_at, name_at, name_of}
+use Rattle.c_preproc.specs.Code.Expander.{Setting, LeavesOut, but_for, entry_of, is_one_of}
 use Rattle.c_preproc.proofs.Depth.{names_are_replaced}
 
 pub same_text_then : (a b : List ℕ) → same_text a b ≡ true → a ≡ b

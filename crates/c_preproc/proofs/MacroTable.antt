@@ -1,5 +1,5 @@
 -- The table of macros: what a definition and its end change, and what a look-up finds.
-use Rattle.std.proofs.Common.{◌&&◌, ◌≡◌, ◌≢◌, ℕ, zero, suc, ◌+◌, ◌-◌, ◌<◌, ◌≤◌, cond, not, ◌==◌, Bool, true, false, IsTrue, List, [], ◌∷◌, ◌++◌, length, map, filter, get_or, Option, Some, None, is_some, IsSomeAnd, Result, Ok, Err, IfOk, OnErr, refl, sym, ap, ◌∙◌, subst, ⊎_elim, arith, eq-eqb, Vec, length-append}
+use Rattle.std.proofs.Common.{◌≡◌, ◌≢◌, ℕ, zero, suc, ◌+◌, ◌<◌, ◌≤◌, cond, not, ◌==◌, Bool, true, false, List, [], ◌∷◌, ◌++◌, length, filter, get_or, Option, Some, None, IsSomeAnd, Result, Ok, Err, OnErr, refl, sym, ap, ◌∙◌, subst, ⊎_elim, arith, eq-eqb, Vec}
 use Rattle.std.specs.declared.alloc.Global.{Global}
 use Rattle.std.specs.Option.{option_map}
 use Rattle.std.specs.BTreeMap as tree
@@ -10,19 +10,18 @@ use Rattle.std.specs.Ordering.{nat_cmp, is_eq}
 use Rattle.std.specs.Map.{lookup, IsKeyTest, AreApart, KeepsOthers}
 use Rattle.std.specs.Str.{bytes_eq}
 use Rattle.std.specs.List.{slice_get}
-use Rattle.std.proofs.lemmas.Bool.{false≢true, cases_Bool, and_parts}
+use Rattle.std.proofs.lemmas.Bool.{false≢true, cases_Bool}
 use Rattle.std.proofs.lemmas.Bool.Decides.{nat_tests}
 use Rattle.std.proofs.lemmas.Map.Text.{is_eq-slice_cmp}
-use Rattle.std.proofs.lemmas.Option.{slice_get_within, slice_get_read}
+use Rattle.std.proofs.lemmas.Option.{slice_get_read}
 use Rattle.std.proofs.lemmas.Slice.Eq.{bytes_eq-Decides}
-use Rattle.c_lexer.specs.declared.token.Token.{Token}
 use Rattle.c_preproc.specs.declared.macros.Entry.{Entry}
 use Rattle.c_preproc.specs.Texts.{same_text}
 use Rattle.c_preproc.specs.Macros.{Macro, macro_of, without}
 use Rattle.c_preproc.specs.declared.expander.Expander.{Expander}
 use Rattle.c_preproc.specs.declared.expander.Kept.{Kept}
-use Rattle.c_preproc.specs.Table.{Index, place_of, macro_of_entry, is_place, defined_from, defined_of, IsIndexed, body_of, body_at}
-use Rattle.c_preproc.specs.Expander.{Setting, IsStore, LeavesOut, macros_of, but_for}
+use Rattle.c_preproc.specs.Code.Table.{Index, place_of, macro_of_entry, is_place, defined_from, defined_of, IsIndexed, body_of, body_at}
+use Rattle.c_preproc.specs.Code.Expander.{Setting, IsStore, LeavesOut, macros_of, but_for}
 use Rattle.c_preproc.proofs.LeftOut.{leads_below, same_text_then, then_same_text, not_same}
 
 -- ---- the index, by names

@@ -5,7 +5,7 @@ use Rattle.std.proofs.lemmas.Bool.{false≢true, le-ltb, cases_lt}
 use Rattle.std.proofs.lemmas.List.{reverse-append, get_or_append_left, get_or_push, get_or-set_same, get_or-set_other}
 use Rattle.std.proofs.lemmas.Bool.Decides.{nat_tests}
 use Rattle.c_preproc.specs.declared.expander.Frame.{Frame}
-use Rattle.c_preproc.specs.Expander.{is_one_of, entries_of, AreSeated}
+use Rattle.c_preproc.specs.Code.Expander.{is_one_of, entries_of, AreSeated}
 
 or_true : (b : Bool) → (b || true) ≡ true
 or_true true = refl

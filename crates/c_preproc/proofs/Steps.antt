@@ -1,8 +1,8 @@
 -- Steps of an expansion: what holds after each.
-use Rattle.std.proofs.Common.{◌≡◌, ℕ, zero, suc, ◌+◌, ◌-◌, ◌<◌, ◌≤◌, ◌||◌, ◌==◌, Bool, true, false, cond, IsTrue, List, [], ◌∷◌, ◌++◌, length, set, drop, take, Option, Some, None, is_some, get_or, Vec, Result, Ok, Err, IfOk, refl, sym, ap, ◌∙◌, subst, arith, append_assoc, length-append, eq-eqb, map, vec_len}
+use Rattle.std.proofs.Common.{◌≡◌, ℕ, ◌+◌, ◌<◌, ◌≤◌, ◌||◌, ◌==◌, Bool, true, false, cond, IsTrue, List, [], ◌∷◌, ◌++◌, length, set, drop, take, Option, Some, None, is_some, get_or, Vec, Result, Ok, Err, IfOk, refl, sym, ap, ◌∙◌, subst, arith, append_assoc, length-append, eq-eqb, map}
 use Rattle.std.specs.Prelude.{reverse}
 use Rattle.std.specs.declared.alloc.Global.{Global}
-use Rattle.std.specs.List.{flat_map, slice_get}
+use Rattle.std.specs.List.{slice_get}
 use Rattle.std.specs.declared.alloc.AllocError.{AllocError}
 use Rattle.std.proofs.lemmas.Bool.{false≢true}
 use Rattle.std.proofs.lemmas.Bool.Decides.{nat_tests}
@@ -11,19 +11,18 @@ use Rattle.c_lexer.specs.declared.token.Token.{Token}
 use Rattle.c_preproc.specs.declared.expander.Expander.{Expander}
 use Rattle.c_preproc.specs.declared.expander.Fit.{Fit}
 use Rattle.c_preproc.specs.declared.expander.Fit.TheVariants.{Fits, TooMany}
-use Rattle.c_preproc.specs.declared.expander.Found.{Found}
 use Rattle.c_preproc.specs.declared.expander.Found.TheVariants as found
 use Rattle.c_preproc.specs.declared.expander.Frame.{Frame}
 use Rattle.c_preproc.specs.declared.expander.Kept.{Kept}
 use Rattle.c_preproc.specs.Macros.{expansion_of_token, placed_at, replacement_of}
 use Rattle.c_preproc.specs.Texts.{text_of}
-use Rattle.c_preproc.specs.Table.{IsIndexed, body_at, name_at}
-use Rattle.c_preproc.specs.Expander.{IsPart}
+use Rattle.c_preproc.specs.Code.Table.{IsIndexed, body_at, name_at}
+use Rattle.c_preproc.specs.Code.Expander.{IsPart}
 use Rattle.c_preproc.specs.Expansion.{token_limit}
-use Rattle.c_preproc.specs.Expander.{Setting, Advances, AllKept, AreAt, AreSeated, AreTraced, ArePlaced, Appends, Grows, IsKept, IsReplaced, IsRunning, IsStep, IsStore, IsWalking, IsWalkingAt, LeavesOut, NameYields, Yields, but_for, effort_of, entries_of, entry_of, found_by, found_of, known_or_new, if_of, is_kept, is_one_of, kept_at, left_of, macros_inside, macros_of, part_of, taint, work_of}
+use Rattle.c_preproc.specs.Code.Expander.{Setting, Advances, AllKept, AreAt, AreSeated, AreTraced, ArePlaced, Appends, Grows, IsKept, IsReplaced, IsRunning, IsStep, IsStore, IsWalking, IsWalkingAt, LeavesOut, NameYields, Yields, but_for, effort_of, entries_of, entry_of, found_by, found_of, known_or_new, if_of, is_kept, is_one_of, kept_at, left_of, macros_inside, macros_of, part_of, taint, work_of}
 use Rattle.c_preproc.proofs.Efforts.{effort_some}
 use Rattle.c_preproc.proofs.Frames.{at_defined, inside_leaves_out, left_closed, left_opened, left_tainted, left_token, traced_hidden, traced_kept, traced_open, traced_put, traced_tainted, traced_whole, work_closed, work_opened, work_tainted, work_token}
-use Rattle.c_preproc.proofs.LeftOut.{but_for_open, entry_below, entry_leads, leads_below, named_there, stays}
+use Rattle.c_preproc.proofs.LeftOut.{entry_below, entry_leads, leads_below, named_there, stays}
 use Rattle.c_preproc.proofs.MacroTable.{leaves_nothing_out}
 use Rattle.c_preproc.proofs.Seats.{apart-less, entries_of-push, is_one_of-push, is_one_of-reverse, length-entries_of, seated-less, seated-push}
 use Rattle.c_preproc.proofs.Store.{at_least_kept, kept_grown, kept_one_more, newly_kept, others_kept}

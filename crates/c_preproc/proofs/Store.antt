@@ -1,17 +1,17 @@
 -- The store: what is kept stays so when it grows and when more is kept (a sparse set).
-use Rattle.std.proofs.Common.{◌≡◌, ◌≢◌, ℕ, zero, suc, ◌+◌, ◌-◌, ◌<◌, ◌≤◌, ◌==◌, Bool, true, false, cond, IsTrue, List, [], ◌∷◌, ◌++◌, length, get_or, set, drop, take, Option, Some, None, is_some, refl, sym, ap, ◌∙◌, subst, append_assoc, map, ◌⊎◌, inl, inr, ⊎_elim, arith, eq-eqb, length-append}
+use Rattle.std.proofs.Common.{◌≡◌, ◌≢◌, ℕ, zero, suc, ◌+◌, ◌-◌, ◌<◌, ◌≤◌, ◌==◌, Bool, true, false, cond, List, [], ◌∷◌, ◌++◌, length, get_or, set, drop, take, Option, Some, None, is_some, refl, sym, ap, ◌∙◌, subst, append_assoc, map, ◌⊎◌, inl, inr, ⊎_elim, arith, eq-eqb, length-append}
 use Rattle.std.specs.List.{slice_get}
 use Rattle.std.proofs.lemmas.Bool.{false≢true, cases_lt}
 use Rattle.std.proofs.lemmas.Bool.Decides.{nat_tests}
 use Rattle.c_preproc.specs.Macros.{placed_at}
-use Rattle.std.proofs.lemmas.List.{map-append, drop_more, drop-append-le, take-append-le, take_rest, get_or-set_same, get_or-set_other, get_or-drop, get_or_append_left, length-drop, length-take-le}
+use Rattle.std.proofs.lemmas.List.{map-append, drop_more, drop-append-le, take-append-le, get_or-set_same, get_or-set_other, get_or-drop, get_or_append_left, length-drop, length-take-le}
 use Rattle.std.proofs.lemmas.Grind.{take_at_read}
 use Rattle.std.proofs.lemmas.Option.{slice_get_within, slice_get-get_or, slice_get_read}
 use Rattle.c_lexer.specs.declared.token.Token.{Token}
 use Rattle.c_preproc.specs.declared.macros.Entry.{Entry}
-use Rattle.c_preproc.specs.Table.{body_at, body_of}
+use Rattle.c_preproc.specs.Code.Table.{body_at, body_of}
 use Rattle.c_preproc.specs.declared.expander.Kept.{Kept}
-use Rattle.c_preproc.specs.Expander.{Setting, AllKept, IsKept, NameYields, if_of, is_kept, kept_at, part_of}
+use Rattle.c_preproc.specs.Code.Expander.{Setting, AllKept, IsKept, NameYields, if_of, is_kept, part_of}
 use Rattle.c_preproc.proofs.Yields.{AtLeast, name_yields_more}
 
 pub part-append : (tokens more : List Token) (start end : ℕ) → end ≤ length tokens → part_of (tokens ++ more) start end ≡ part_of tokens start end

@@ -1,5 +1,5 @@
 -- Tokens that no directive and no macro touches.
-use Rattle.std.proofs.Common.{codes, ◌≡◌, ℕ, suc, ◌+◌, ◌≤◌, ◌&&◌, List, [], ◌∷◌, ◌++◌, Bool, true, false, not, length, map, None, Ok, refl, ap, sym, ◌∙◌, arith, nat_lt, append_assoc, length-append}
+use Rattle.std.proofs.Common.{codes, ◌≡◌, ℕ, ◌+◌, ◌≤◌, ◌&&◌, List, [], ◌∷◌, ◌++◌, Bool, true, false, not, length, map, None, Ok, refl, ap, sym, ◌∙◌, arith, append_assoc, length-append}
 use Rattle.std.proofs.lemmas.Bool.{and_parts, le-ltb}
 use Rattle.std.proofs.lemmas.List.{append-nil}
 use Rattle.std.specs.List.{list_all}
@@ -9,7 +9,7 @@ use Rattle.c_preproc.specs.Directives.{Plain, blocks_of}
 use Rattle.c_preproc.specs.Macros.{expansion_of_token, replacement}
 use Rattle.c_preproc.specs.Groups.{unbalanced_line}
 use Rattle.c_preproc.specs.Outcomes.{and_then}
-use Rattle.c_preproc.specs.Expansion.{State, after_blocks, after_token, filc_macro, first_fault, first_state, list_of, token_limit, with_digits}
+use Rattle.c_preproc.specs.Expansion.{State, after_blocks, after_token, filc_macro, first_fault, first_state, token_limit, with_digits}
 use Rattle.c_preproc.specs.Law.{is_untouched, ExpandsToItself, UntouchedTokensStay}
 use Rattle.c_preproc.proofs.Lists.{and_false}
 

@@ -1,6 +1,5 @@
 -- What is kept yields: the tokens that stand for an entry's tokens, or its name, wherever no kept entry is hidden.
-use Rattle.std.proofs.Common.{◌≡◌, ℕ, suc, ◌+◌, ◌<◌, ◌≤◌, ◌||◌, ◌==◌, Bool, true, false, cond, IsTrue, List, [], ◌∷◌, ◌++◌, length, drop, take, Option, Some, None, refl, sym, ap, ◌∙◌, subst, arith, eq-eqb, append_assoc}
-use Rattle.std.specs.List.{flat_map}
+use Rattle.std.proofs.Common.{◌≡◌, ℕ, ◌||◌, ◌==◌, Bool, true, false, List, [], ◌∷◌, ◌++◌, Some, None, refl, sym, ap, ◌∙◌, arith}
 use Rattle.std.proofs.lemmas.Bool.{false≢true}
 use Rattle.std.proofs.lemmas.Bool.Decides.{nat_tests}
 use Rattle.std.proofs.lemmas.Grind.{flat_map-append}
@@ -8,9 +7,9 @@ use Rattle.std.proofs.lemmas.List.{append-nil}
 use Rattle.c_lexer.specs.declared.token.Token.{Token}
 use Rattle.c_preproc.specs.Texts.{text_of}
 use Rattle.c_preproc.specs.Macros.{Macro, without, replacement_of}
-use Rattle.c_preproc.specs.Table.{IsIndexed, body_at, name_at}
-use Rattle.c_preproc.specs.Expander.{Setting, LeavesOut, NameYields, Yields, but_for, entry_of, is_one_of}
-use Rattle.c_preproc.proofs.LeftOut.{but_for_open, entry_leads, goes, leaves_out_more, named_there, stays}
+use Rattle.c_preproc.specs.Code.Table.{IsIndexed, body_at}
+use Rattle.c_preproc.specs.Code.Expander.{Setting, LeavesOut, NameYields, Yields, but_for, entry_of, is_one_of}
+use Rattle.c_preproc.proofs.LeftOut.{but_for_open, entry_leads, goes, leaves_out_more, stays}
 
 -- wherever no kept entry is hidden the token is replaced by these
 abbrev pub TokenYields : Setting → (ℕ → Bool) → Token → List Token → Type 0

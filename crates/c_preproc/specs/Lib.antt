@@ -6,10 +6,4 @@ pub mod Groups
 pub mod Outcomes
 pub mod Expansion
 pub mod Law
-pub mod Kinds
-pub mod Nesting
-pub mod Reading
-pub mod Seen
-pub mod Table
-pub mod Expander
-pub mod Defined
+pub mod Code

@@ -1,7 +1,7 @@
 -- Macros: a name and the tokens that it stands for.
 --
 -- A macro isn't expanded within its own expansion: there it is as if it were not defined.
-use Rattle.std.specs.Prelude.{ℕ, zero, suc, cond, not, List, [], ◌∷◌, length, map, filter, Option, Some, None}
+use Rattle.std.specs.Prelude.{ℕ, zero, suc, cond, not, List, [], ◌∷◌, length, map, filter, Option, None}
 use Rattle.std.specs.List.{flat_map, find}
 use Rattle.std.specs.Option.{option_map, option_map_or}
 use Rattle.c_lexer.specs.declared.token.Token.{Token}

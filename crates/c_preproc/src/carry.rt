@@ -3,9 +3,9 @@
 ghost use Rattle.std.specs.Prelude.{◌≡◌, [], Ok, List};
 ghost use Rattle.c_preproc.specs.Directives.{blocks_of, command_of};
 ghost use Rattle.c_preproc.specs.Expansion.{State as DefinedState, after_blocks, after_directive, after_token, carry_out, pass_over};
-ghost use Rattle.c_preproc.specs.Kinds.{command};
+ghost use Rattle.c_preproc.specs.Code.Kinds.{command};
 ghost use Rattle.c_preproc.specs.Outcomes.{Gives};
-ghost use Rattle.c_preproc.specs.Seen.{seen};
+ghost use Rattle.c_preproc.specs.Code.Seen.{seen};
 
 use crate::conditionals::{else_if, else_of, end_if, is_active, open_by_name, open_group, open_if};
 use crate::directives::{DirectiveWord, directive_length, directive_word};
@@ -26,7 +26,8 @@ fn carry_out(
     word: DirectiveWord,
     tokens: &[Token],
 ) -> Result<(), PreFault>
-    ensures { Gives (carry_out line (seen state.old) (command word tokens.now)) (λ _. seen state.new) result }
+    ensures { Gives (carry_out line (seen state.old) (command word tokens.now))
+        (λ _. seen state.new) result }
 {
     match word {
         DirectiveWord::Nothing | DirectiveWord::Pragma => Ok(()),
@@ -51,7 +52,8 @@ fn pass_over(
     word: DirectiveWord,
     tokens: &[Token],
 ) -> Result<(), PreFault>
-    ensures { Gives (pass_over line (seen state.old) (command word tokens.now)) (λ _. seen state.new) result }
+    ensures { Gives (pass_over line (seen state.old) (command word tokens.now))
+        (λ _. seen state.new) result }
 {
     match word {
         DirectiveWord::If | DirectiveWord::IfDefined | DirectiveWord::IfUndefined => {
@@ -78,7 +80,8 @@ fn after_directive(
     tokens: &[Token],
 ) -> Result<(), PreFault>
     ensures { let old = seen state.old in
-        Gives (after_directive line old (command_of old.definitions.bytes tokens.now)) (λ _. seen state.new) result }
+        Gives (after_directive line old (command_of old.definitions.bytes tokens.now))
+        (λ _. seen state.new) result }
 {
     let word = directive_word(state.macros.bytes(), tokens);
     let (_, behind) = tokens.split_at(tokens.len().min(1));
@@ -106,7 +109,8 @@ fn after_token(state: &mut State, token: Token) -> Result<(), PreFault>
 /// list would go on with the state that is left.
 fn carry_tokens(alloc: Global, state: &mut State, tokens: &[Token]) -> Result<(), PreFault>
     ensures { let old = seen state.old in
-        Gives (after_blocks old (blocks_of old.definitions.bytes 0 tokens.now)) (λ _. seen state.new) result }
+        Gives (after_blocks old (blocks_of old.definitions.bytes 0 tokens.now))
+        (λ _. seen state.new) result }
 {
     let mut rest = tokens;
     while let Some((token, behind)) = rest.split_first() {

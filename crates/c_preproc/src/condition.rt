@@ -50,7 +50,8 @@ fn decide(
     line: u32,
     tokens: &[Token],
 ) -> Result<Vec<Token>, PreFault>
-    ensures { Gives (or_directive line (decided_of macros.now 0 tokens.now)) (λ decided. decided.items) result }
+    ensures { Gives (or_directive line (decided_of macros.now 0 tokens.now))
+        (λ decided. decided.items) result }
 {
     let bytes = macros.bytes();
     let mut decided = Vec::new(alloc);

@@ -9,7 +9,7 @@ ghost use Rattle.std.specs.Option.{option_map, option_and_then};
 ghost use Rattle.c_lexer.specs.Number.{is_u};
 ghost use Rattle.c_preproc.specs.Condition.{item_of_kind, is_unsigned, truth_of_items};
 ghost use Rattle.c_preproc.specs.Expansion.{items_of};
-ghost use Rattle.c_preproc.specs.Reading.{operand, item_as_read, truth, state, end_of};
+ghost use Rattle.c_preproc.specs.Code.Reading.{operand, item_as_read, truth, state, end_of};
 ghost use Rattle.c_preproc.specs.Texts.{text_of};
 
 use crate::condition_mark::read_mark;
@@ -24,7 +24,8 @@ use std::alloc::{AllocError, Global};
 /// Each token is looked at once. Memory is taken for each part that is open, so the depth of the parts
 /// isn't limited.
 pub fn holds(alloc: Global, bytes: &[u8], tokens: &[Token]) -> Result<Option<bool>, AllocError>
-    ensures { IfOk result (λ holds. holds ≡ option_and_then truth_of_items (items_of bytes.now tokens.now)) }
+    ensures { IfOk result (λ holds. holds
+        ≡ option_and_then truth_of_items (items_of bytes.now tokens.now)) }
 {
     let mut frames = Vec::new(alloc);
     let mut mode = Mode::Wanted;
@@ -41,7 +42,8 @@ pub fn holds(alloc: Global, bytes: &[u8], tokens: &[Token]) -> Result<Option<boo
 }
 
 fn truth_at_end(frames: Vec<Frame>, mode: Mode) -> Option<bool>
-    ensures { result ≡ option_and_then (λ value. truth value.bits) (end_of (state (reverse frames.items) mode)) }
+    ensures { result ≡ option_and_then
+        (λ value. truth value.bits) (end_of (state (reverse frames.items) mode)) }
 {
     let value = finish(frames, mode)?;
     truth(value.bits)

@@ -1,7 +1,7 @@
 //! The marks of a condition.
 
 ghost use Rattle.std.specs.Prelude.{◌≡◌};
-ghost use Rattle.c_preproc.specs.Reading.{binary_operator, mark_of_one, mark_of_two, mark_of, sign_in, operator_in};
+ghost use Rattle.c_preproc.specs.Code.Reading.{binary_operator, mark_of_one, mark_of_two, mark_of, sign_in, operator_in};
 
 use crate::condition_value::{Joint, Sign};
 use filc_num::BinOp;

@@ -7,7 +7,7 @@
 
 ghost use Rattle.std.specs.Prelude.{◌≡◌, reverse, IfOk};
 ghost use Rattle.std.specs.Option.{option_map};
-ghost use Rattle.c_preproc.specs.Reading.{floor_of, top_floor, opened, opened_choice, beginning, settled, closed, state, begun, went_on, taken, finished, end_of};
+ghost use Rattle.c_preproc.specs.Code.Reading.{floor_of, top_floor, opened, opened_choice, beginning, settled, closed, state, begun, went_on, taken, finished, end_of};
 
 use crate::condition_mark::{Mark, Operator};
 use crate::condition_value::{Joint, Sign, Value, chosen, joined, signed, truth};
@@ -131,7 +131,8 @@ fn beginning(mark: Mark) -> Option<Frame>
 
 /// Takes an item where an operand begins. None where none begins with it.
 fn begin(frames: &mut Vec<Frame>, item: Item) -> Result<Option<Mode>, AllocError>
-    ensures { IfOk result (λ mode. option_map (state (reverse frames.new.items)) mode ≡ begun (reverse frames.old.items) item) }
+    ensures { IfOk result (λ mode. option_map (state (reverse frames.new.items)) mode
+        ≡ begun (reverse frames.old.items) item) }
 {
     match item {
         Item::Operand(value) => Ok(Some(Mode::Behind(Whole { level: 11, value }))),
@@ -153,7 +154,8 @@ fn close(
     value: Value,
     mark: Mark,
 ) -> Result<Option<Mode>, AllocError>
-    ensures { IfOk result (λ mode. option_map (state (reverse frames.new.items)) mode ≡ closed (reverse frames.old.items) frame value mark) }
+    ensures { IfOk result (λ mode. option_map (state (reverse frames.new.items)) mode
+        ≡ closed (reverse frames.old.items) frame value mark) }
 {
     match (frame, mark) {
         (Frame::Parenthesis, Mark::Close) => Ok(Some(Mode::Behind(Whole { level: 11, value }))),
@@ -167,7 +169,8 @@ fn close(
 
 /// Takes a mark behind a value. None where no expression goes on with it.
 fn go_on(frames: &mut Vec<Frame>, mut whole: Whole, mark: Mark) -> Result<Option<Mode>, AllocError>
-    ensures { IfOk result (λ mode. option_map (state (reverse frames.new.items)) mode ≡ went_on (reverse frames.old.items) whole mark) }
+    ensures { IfOk result (λ mode. option_map (state (reverse frames.new.items)) mode
+        ≡ went_on (reverse frames.old.items) whole mark) }
 {
     loop {
         if let Some(frame) = opened(top_floor(frames), whole, mark) {
@@ -186,7 +189,8 @@ fn go_on(frames: &mut Vec<Frame>, mut whole: Whole, mark: Mark) -> Result<Option
 
 /// Takes the next item. None where no expression goes on with it.
 pub fn take(frames: &mut Vec<Frame>, mode: Mode, item: Item) -> Result<Option<Mode>, AllocError>
-    ensures { IfOk result (λ mode'. option_map (state (reverse frames.new.items)) mode' ≡ taken (state (reverse frames.old.items) mode) item) }
+    ensures { IfOk result (λ mode'. option_map (state (reverse frames.new.items)) mode'
+        ≡ taken (state (reverse frames.old.items) mode) item) }
 {
     match (mode, item) {
         (Mode::Wanted, _) => begin(frames, item),

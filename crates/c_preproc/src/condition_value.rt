@@ -5,7 +5,7 @@
 ghost use Rattle.std.specs.Prelude.{◌≡◌};
 ghost use Rattle.filc_num.specs.Integers.{is_comparison};
 ghost use Rattle.c_preproc.specs.Condition.{is_shift};
-ghost use Rattle.c_preproc.specs.Reading.{kind_of, computed, truth, both, either, signed, negated, operated, joined, chosen, chosen_bits};
+ghost use Rattle.c_preproc.specs.Code.Reading.{kind_of, computed, truth, both, either, signed, negated, operated, joined, chosen, chosen_bits};
 
 use filc_num::{BinOp, IntType, binary};
 

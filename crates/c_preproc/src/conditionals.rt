@@ -3,7 +3,7 @@
 ghost use Rattle.std.specs.Prelude.{◌≡◌, ◌∷◌, OnOk, Ok};
 ghost use Rattle.c_preproc.specs.Expansion.{after_group, bare, condition_of, else_if, else_of, end_if, group_if, is_active, is_as_wanted, is_defined, only_name, open_if, or_directive, with_groups};
 ghost use Rattle.c_preproc.specs.Outcomes.{Gives, and_then};
-ghost use Rattle.c_preproc.specs.Seen.{group_of, groups_of, seen};
+ghost use Rattle.c_preproc.specs.Code.Seen.{group_of, groups_of, seen};
 
 use crate::condition::condition_of;
 use crate::fault::PreFault;
@@ -57,7 +57,8 @@ pub fn open_if(
     tokens: &[Token],
 ) -> Result<(), PreFault>
     ensures { let old = seen state.old in
-        Gives (and_then (condition_of old.definitions line tokens.now) (λ holds. Ok (open_if old holds)))
+        Gives (and_then (condition_of old.definitions line tokens.now)
+        (λ holds. Ok (open_if old holds)))
         (λ _. seen state.new) result }
 {
     let holds = condition_of(alloc, &mut state.macros, line, tokens)?;

@@ -2,7 +2,7 @@
 
 ghost use Rattle.std.specs.Prelude.{◌≡◌, ◌≤◌, ◌∷◌, length, take, drop, MatchOption};
 ghost use Rattle.c_preproc.specs.Directives.{rest_of_line, command_of, blocks_of, Plain, Directive};
-ghost use Rattle.c_preproc.specs.Kinds.{command};
+ghost use Rattle.c_preproc.specs.Code.Kinds.{command};
 
 use crate::texts::{is_mark, is_word};
 use c_lexer::{Token, TokenKind};

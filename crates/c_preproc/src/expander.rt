@@ -16,8 +16,8 @@
 ghost use Rattle.std.specs.Prelude.{◌≡◌, ◌∷◌, ◌++◌, ◌+◌, ◌≤◌, ◌<◌, [], IfOk, OnOk, OnErr, MatchOption, Some, ℕ, true, false, length, map, reverse, slice_set};
 ghost use Rattle.c_preproc.specs.Expansion.{token_limit};
 ghost use Rattle.c_preproc.specs.Macros.{expansion_of_token, placed_at, replacement_of};
-ghost use Rattle.c_preproc.specs.Table.{IsIndexed, place_of};
-ghost use Rattle.c_preproc.specs.Expander.{Appends, AreSeated, Grows, IsRange, IsReplaced, IsStep, IsStore, IsWalking, IsWalkingAt, Setting, Walks, entries_of, entry_of, found_of, is_kept, is_one_of, kept_at, left_of, macros_of, part_of, setting_of, taint, work_of};
+ghost use Rattle.c_preproc.specs.Code.Table.{IsIndexed, place_of};
+ghost use Rattle.c_preproc.specs.Code.Expander.{Appends, AreSeated, Grows, IsRange, IsReplaced, IsStep, IsStore, IsWalking, IsWalkingAt, Setting, Walks, entries_of, entry_of, found_of, is_kept, is_one_of, kept_at, left_of, macros_of, part_of, setting_of, taint, work_of};
 
 use crate::macros::Table;
 use c_lexer::Token;
@@ -107,8 +107,10 @@ fn open(
 ) -> Result<(), AllocError>
     requires { entry < length seats.old.items }
     ensures count { length seats.new.items ≡ length seats.old.items }
-    ensures seats { OnOk result (seats.new.items ≡ slice_set seats.old.items entry (length stack.old.items)) }
-    ensures stack { OnOk result (stack.new.items ≡ stack.old.items ++ record { entry = entry; next = 0; start = start; clean = true } ∷ []) }
+    ensures seats { OnOk result (seats.new.items
+        ≡ slice_set seats.old.items entry (length stack.old.items)) }
+    ensures stack { OnOk result (stack.new.items
+        ≡ stack.old.items ++ record { entry = entry; next = 0; start = start; clean = true } ∷ []) }
 {
     seats[entry] = stack.len();
     stack.push(Frame {
@@ -124,8 +126,10 @@ fn open(
 fn keep(spots: &mut Vec<usize>, kept: &mut Vec<Kept>, new: Kept) -> Result<(), AllocError>
     requires { new.entry < length spots.old.items }
     ensures kept { OnOk result (kept.new.items ≡ kept.old.items ++ new ∷ []) }
-    ensures spots { OnOk result (spots.new.items ≡ slice_set spots.old.items new.entry (length kept.old.items)) }
-    ensures err { OnErr result ((kept.new.items ≡ kept.old.items) × (spots.new.items ≡ spots.old.items)) }
+    ensures spots { OnOk result (spots.new.items
+        ≡ slice_set spots.old.items new.entry (length kept.old.items)) }
+    ensures err { OnErr result ((kept.new.items ≡ kept.old.items) × (spots.new.items
+        ≡ spots.old.items)) }
 {
     let spot = kept.len();
     kept.push(new)?;
@@ -150,7 +154,8 @@ fn taint(stack: &mut Vec<Frame>) -> Result<(), AllocError>
 
 /// Puts a token out, if there is room.
 fn put(tokens: &mut Vec<Token>, token: Token, limit: usize) -> Result<Fit, AllocError>
-    ensures put { IfOk result (λ fit. Appends fit limit (token ∷ []) tokens.old.items tokens.new.items) }
+    ensures put { IfOk result
+        (λ fit. Appends fit limit (token ∷ []) tokens.old.items tokens.new.items) }
     ensures grown { Grows tokens.old.items tokens.new.items }
 {
     if tokens.len() >= limit {
@@ -164,7 +169,8 @@ fn put(tokens: &mut Vec<Token>, token: Token, limit: usize) -> Result<Fit, Alloc
 fn copy(tokens: &mut Vec<Token>, kept: Kept, limit: usize) -> Result<Fit, AllocError>
     requires ordered { kept.start ≤ kept.end }
     requires within { kept.end ≤ length tokens.old.items }
-    ensures put { IfOk result (λ fit. Appends fit limit (part_of tokens.old.items kept.start kept.end) tokens.old.items tokens.new.items) }
+    ensures put { IfOk result
+        (λ fit. Appends fit limit (part_of tokens.old.items kept.start kept.end) tokens.old.items tokens.new.items) }
     ensures grown { Grows tokens.old.items tokens.new.items }
 {
     if tokens.len() + (kept.end - kept.start) > limit {
@@ -179,7 +185,8 @@ fn copy(tokens: &mut Vec<Token>, kept: Kept, limit: usize) -> Result<Fit, AllocE
 
 /// Appends tokens at the line of a name, if the list isn't too long then.
 fn place(name: Token, tokens: &[Token], out: &mut Vec<Token>) -> Result<Fit, AllocError>
-    ensures { IfOk result (λ fit. Appends fit token_limit (map (placed_at name) tokens.now) out.old.items out.new.items) }
+    ensures { IfOk result
+        (λ fit. Appends fit token_limit (map (placed_at name) tokens.now) out.old.items out.new.items) }
 {
     if out.len() + tokens.len() > TOKEN_LIMIT {
         return Ok(Fit::TooMany);
@@ -237,7 +244,8 @@ impl Expander {
     ) -> Result<Fit, AllocError>
         requires indexed { IsIndexed (place_of table.now.index) table.now.entries.items }
         requires walking { IsWalkingAt (setting_of bytes.now table.now) self.old token }
-        ensures step { IfOk result (λ fit. IsReplaced fit (setting_of bytes.now table.now) limit token self.old self.new) }
+        ensures step { IfOk result
+            (λ fit. IsReplaced fit (setting_of bytes.now table.now) limit token self.old self.new) }
         ensures store { IsStore (setting_of bytes.now table.now) self.new }
     {
         match self.find(table, bytes, token) {

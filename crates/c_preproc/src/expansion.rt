@@ -16,7 +16,8 @@ pub fn append_expansion(
     out: &mut Vec<Token>,
 ) -> Result<(), PreFault>
     ensures same { macros.new ≡ macros.old }
-    ensures list { Gives (with_expansion macros.old token out.old.items) (λ _. out.new.items) result }
+    ensures list { Gives (with_expansion macros.old token out.old.items)
+        (λ _. out.new.items) result }
 {
     match macros.expand(token, out)? {
         Fit::Fits => Ok(()),
@@ -31,7 +32,8 @@ pub fn append_expansions(
     out: &mut Vec<Token>,
 ) -> Result<(), PreFault>
     ensures same { macros.new ≡ macros.old }
-    ensures list { Gives (with_expansions macros.old tokens.now out.old.items) (λ _. out.new.items) result }
+    ensures list { Gives (with_expansions macros.old tokens.now out.old.items)
+        (λ _. out.new.items) result }
 {
     for token in tokens {
         append_expansion(macros, *token, out)?;

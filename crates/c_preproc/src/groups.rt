@@ -4,9 +4,9 @@ ghost use Rattle.std.specs.Prelude.{◌≡◌, ◌∷◌, [], List, Option, ℕ,
 ghost use Rattle.c_lexer.specs.declared.token.Token.{Token};
 ghost use Rattle.c_preproc.specs.Directives.{blocks_of};
 ghost use Rattle.c_preproc.specs.Groups.{earlier, outermost, part, nested, unbalanced_line};
-ghost use Rattle.c_preproc.specs.Kinds.{command};
-ghost use Rattle.c_preproc.specs.Nesting.{after_step};
-ghost use Rattle.c_preproc.specs.Nesting.{opens_of};
+ghost use Rattle.c_preproc.specs.Code.Kinds.{command};
+ghost use Rattle.c_preproc.specs.Code.Nesting.{after_step};
+ghost use Rattle.c_preproc.specs.Code.Nesting.{opens_of};
 ghost use Rattle.c_preproc.specs.Groups.{Open as DefinedOpen};
 
 use crate::directives::{DirectiveWord, directive_length, directive_word};
@@ -52,7 +52,8 @@ fn outermost(opened: &[Open]) -> Option<u32>
 /// A part of the innermost `if`.
 fn part(opened: &mut Vec<Open>, is_else: bool, line: u32) -> Result<Step, AllocError>
     ensures { IfOk result (λ step. (next : List DefinedOpen → Option ℕ)
-        → part line is_else (opens_of opened.old.items) next ≡ after_step step line (next (opens_of opened.new.items))) }
+        → part line is_else (opens_of opened.old.items) next
+        ≡ after_step step line (next (opens_of opened.new.items))) }
 {
     let Some(innermost) = opened.pop() else {
         return Ok(Step::Alone);
@@ -103,7 +104,8 @@ pub fn unbalanced_line(
     bytes: &[u8],
     tokens: &[Token],
 ) -> Result<Option<u32>, AllocError>
-    ensures { IfOk result (λ line. line ≡ unbalanced_line bytes.now [] (blocks_of bytes.now 0 tokens.now)) }
+    ensures { IfOk result (λ line. line
+        ≡ unbalanced_line bytes.now [] (blocks_of bytes.now 0 tokens.now)) }
 {
     let mut opened = Vec::new(alloc);
     let mut least = None;

@@ -5,7 +5,7 @@
 
 ghost use Rattle.std.specs.Prelude.{◌≡◌, ◌∷◌, ◌++◌, ◌+◌, ◌<◌, ◌≤◌, ◌^◌, [], IfOk, OnErr, OnOk, None, length, vec_len};
 ghost use Rattle.std.specs.Option.{option_copied, option_map};
-ghost use Rattle.c_preproc.specs.Expander.{Appends};
+ghost use Rattle.c_preproc.specs.Code.Expander.{Appends};
 ghost use Rattle.c_preproc.specs.Expansion.{filc_macro, is_defined, token_limit, with_digits};
 ghost use Rattle.c_preproc.specs.Macros.{Macro, expansion_of_token, macro_of, without};
 ghost use Rattle.c_preproc.specs.Texts.{text_of};
@@ -34,7 +34,7 @@ pub struct Table {
 impl Table {
     ghost use Rattle.std.specs.Prelude.{◌≡◌, None, cond};
     ghost use Rattle.c_preproc.specs.Texts.{is_name, text_of};
-    ghost use Rattle.c_preproc.specs.Table.{place_of};
+    ghost use Rattle.c_preproc.specs.Code.Table.{place_of};
 
     /// The place of the entry of a name that is defined.
     pub fn find(&self, name: &[u8]) -> Option<usize>
@@ -45,7 +45,8 @@ impl Table {
 
     /// The place of the entry that the token names.
     pub fn named(&self, bytes: &[u8], token: Token) -> Option<usize>
-        ensures { result ≡ cond (is_name token) (place_of self.now.index (text_of bytes.now token)) None }
+        ensures { result
+            ≡ cond (is_name token) (place_of self.now.index (text_of bytes.now token)) None }
     {
         if matches!(token.kind, TokenKind::Name) {
             self.find(text_of(bytes, token))
@@ -66,8 +67,8 @@ pub struct Macros {
 
 impl Model for Macros {
     ghost use Rattle.c_preproc.specs.Macros.{Definitions};
-    ghost use Rattle.c_preproc.specs.Table.{place_of};
-    ghost use Rattle.c_preproc.specs.Defined.{IsDefined, definitions_of};
+    ghost use Rattle.c_preproc.specs.Code.Table.{place_of};
+    ghost use Rattle.c_preproc.specs.Code.Defined.{IsDefined, definitions_of};
 
     ghost Value = { Definitions };
 
@@ -135,7 +136,8 @@ impl Macros {
 
     /// The tokens that the name stands for.
     pub fn body_of(&self, name: &[u8]) -> Option<&[Token]>
-        ensures { option_copied result ≡ option_map (λ macro. macro.body) (macro_of self.now.macros name.now) }
+        ensures { option_copied result ≡ option_map
+            (λ macro. macro.body) (macro_of self.now.macros name.now) }
     {
         let place = self.table.find(name)?;
         Some(self.table.entries[place].body.as_slice())
@@ -152,7 +154,8 @@ impl Macros {
     fn define(&mut self, alloc: Global, name: &[u8], body: &[Token]) -> Result<(), AllocError>
         requires { macro_of self.old.macros name.now ≡ None }
         ensures bytes { self.new.bytes ≡ self.old.bytes }
-        ensures ok { OnOk result (self.new.macros ≡ record { name = name.now; body = body.now } ∷ self.old.macros) }
+        ensures ok { OnOk result (self.new.macros
+            ≡ record { name = name.now; body = body.now } ∷ self.old.macros) }
         ensures err { OnErr result (self.new.macros ≡ self.old.macros) }
     {
         let key = Vec::from_slice(alloc, name)?;
@@ -177,7 +180,8 @@ impl Macros {
     ) -> Result<(), AllocError>
         requires { macro_of self.old.macros (text_of self.old.bytes name) ≡ None }
         ensures bytes { self.new.bytes ≡ self.old.bytes }
-        ensures ok { OnOk result (self.new.macros ≡ record { name = text_of self.old.bytes name; body = body.now } ∷ self.old.macros) }
+        ensures ok { OnOk result (self.new.macros
+            ≡ record { name = text_of self.old.bytes name; body = body.now } ∷ self.old.macros) }
     {
         let name = Vec::from_slice(alloc, text_of(&self.bytes, name))?;
         self.define(alloc, &name, body)

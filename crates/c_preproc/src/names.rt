@@ -5,7 +5,7 @@ ghost use Rattle.std.specs.Option.{option_map};
 ghost use Rattle.c_preproc.specs.Expansion.{define, has_parameters, hash_line, only_name, or_directive, undefine};
 ghost use Rattle.c_preproc.specs.Macros.{macro_of};
 ghost use Rattle.c_preproc.specs.Outcomes.{Gives, and_then};
-ghost use Rattle.c_preproc.specs.Seen.{seen};
+ghost use Rattle.c_preproc.specs.Code.Seen.{seen};
 ghost use Rattle.c_preproc.specs.Texts.{same_tokens, text_of};
 
 use crate::fault::PreFault;
@@ -50,7 +50,8 @@ fn has_parameters(bytes: &[u8], name: Token, tokens: &[Token]) -> bool
 /// Whether the macro of this name has these tokens, if there is one.
 fn is_same_body(macros: &Macros, name: Token, body: &[Token]) -> Option<bool>
     ensures { let bytes = macros.now.bytes in
-        result ≡ option_map (λ old. same_tokens bytes old.body body.now) (macro_of macros.now.macros (text_of bytes name)) }
+        result ≡ option_map
+        (λ old. same_tokens bytes old.body body.now) (macro_of macros.now.macros (text_of bytes name)) }
 {
     let bytes = macros.bytes();
     let old = macros.body_of(text_of(bytes, name))?;
@@ -93,7 +94,8 @@ pub fn define(alloc: Global, state: &mut State, line: u32, tokens: &[Token]) -> 
 /// `undef`.
 pub fn undefine(state: &mut State, line: u32, tokens: &[Token]) -> Result<(), PreFault>
     ensures { let old = seen state.old in
-        Gives (and_then (or_directive line (only_name tokens.now)) (λ name. Ok (undefine old name))) (λ _. seen state.new) result }
+        Gives (and_then (or_directive line (only_name tokens.now)) (λ name. Ok (undefine old name)))
+        (λ _. seen state.new) result }
 {
     let Some(name) = only_name(tokens) else {
         return Err(PreFault::Directive(line));

@@ -22,9 +22,11 @@ const MOST_BYTES: usize = 4_294_967_293;
 /// `if`s that are open and the bytes once more, and while a condition is worked out for its tokens
 /// and its open parts.
 pub fn preprocess(alloc: Global, tokens: &Tokens) -> Result<Tokens, PreFault>
-    ensures list { IfOk result (λ out. expansion_of tokens.now.bytes.items tokens.now.list.items ≡ Ok out.list.items) }
+    ensures list { IfOk result (λ out. expansion_of tokens.now.bytes.items tokens.now.list.items
+        ≡ Ok out.list.items) }
     ensures bytes { IfOk result (λ out. out.bytes.items ≡ with_digits tokens.now.bytes.items) }
-    ensures fault { IfErr result (λ fault. fault ≢ PreFault.NoMemory → expansion_of tokens.now.bytes.items tokens.now.list.items ≡ Err fault) }
+    ensures fault { IfErr result (λ fault. fault ≢ PreFault.NoMemory
+        → expansion_of tokens.now.bytes.items tokens.now.list.items ≡ Err fault) }
 {
     if tokens.bytes.len() > MOST_BYTES {
         return Err(PreFault::NoMemory);
@@ -57,7 +59,8 @@ fn line_of(fault: PreFault) -> u32
 /// The fault of the balance on this line, or another fault that is earlier.
 fn earlier_fault(unbalanced: u32, fault: PreFault) -> PreFault
     ensures no_memory { fault ≡ PreFault.NoMemory → result ≡ PreFault.NoMemory }
-    ensures first { fault ≢ PreFault.NoMemory → first_fault (Some unbalanced) (Err fault) ≡ Err result }
+    ensures first { fault ≢ PreFault.NoMemory → first_fault (Some unbalanced) (Err fault)
+        ≡ Err result }
 {
     if fault == PreFault::NoMemory || line_of(fault) < unbalanced {
         fault

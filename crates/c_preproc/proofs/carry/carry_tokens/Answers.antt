@@ -2,7 +2,7 @@
 use Rattle.std.proofs.Common.{refl, ◌∙◌}
 use Rattle.std.proofs.lemmas.List.{nil_from_length}
 use Rattle.std.proofs.lemmas.Result.{err_from_is_err_and}
-use Rattle.c_preproc.specs.Seen.{seen}
+use Rattle.c_preproc.specs.Code.Seen.{seen}
 use Rattle.c_preproc.proofs.Carried.{directive_bytes, directive_fault, directive_step, on_no_block, token_bytes, token_fault, token_step}
 use Rattle.c_preproc.proofs.carry.carry_tokens.Goals as goal
 

@@ -1,7 +1,7 @@
 use Rattle.std.proofs.Common.{◌≡◌, length}
 use Rattle.c_preproc.specs.Directives.{blocks_of}
 use Rattle.c_preproc.specs.Expansion.{after_blocks}
-use Rattle.c_preproc.specs.Seen.{seen}
+use Rattle.c_preproc.specs.Code.Seen.{seen}
 use Rattle.c_preproc.proofs.carry.carry_tokens.Given as goal
 
 -- the outcome of what is left is that of the whole

@@ -1,5 +1,5 @@
 use Rattle.std.proofs.Common.{arith, reverse, ◌∙◌}
-use Rattle.c_preproc.specs.Reading.{state}
+use Rattle.c_preproc.specs.Code.Reading.{state}
 use Rattle.c_preproc.proofs.ConditionItems.{on_start, on_none, on_refused, on_taken, on_end}
 use Rattle.c_preproc.proofs.condition_items.holds.Goals as goal
 

@@ -2,7 +2,7 @@ use Rattle.std.proofs.Common.{◌≡◌, drop, reverse}
 use Rattle.std.specs.Option.{option_and_then}
 use Rattle.c_preproc.specs.Condition.{truth_of_items}
 use Rattle.c_preproc.specs.Expansion.{items_of}
-use Rattle.c_preproc.specs.Reading.{state}
+use Rattle.c_preproc.specs.Code.Reading.{state}
 use Rattle.c_preproc.proofs.ConditionItems.{answer}
 use Rattle.c_preproc.proofs.condition_items.holds.Given as goal
 

@@ -1,5 +1,5 @@
 use Rattle.std.proofs.Common.{◌≡◌, reverse, vec_len}
-use Rattle.c_preproc.specs.Reading.{went_on}
+use Rattle.c_preproc.specs.Code.Reading.{went_on}
 use Rattle.c_preproc.proofs.condition_reader.go_on.Given as goal
 
 -- what the mark makes of the frames that are left is what it makes of all

@@ -1,5 +1,5 @@
 use Rattle.std.proofs.Common.{◌≡◌, reverse, vec_len}
-use Rattle.c_preproc.specs.Reading.{finished}
+use Rattle.c_preproc.specs.Code.Reading.{finished}
 use Rattle.c_preproc.proofs.condition_reader.settle_all.Given as goal
 
 -- what the frames that are left make of the value is what all make of the first

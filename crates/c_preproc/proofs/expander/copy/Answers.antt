@@ -1,6 +1,6 @@
-use Rattle.std.proofs.Common.{◌≡◌, ◌≤◌, ◌++◌, length, ap, sym, ◌∙◌, arith, length-append}
+use Rattle.std.proofs.Common.{◌≡◌, ◌++◌, length, ap, sym, ◌∙◌, arith, length-append}
 use Rattle.std.proofs.lemmas.List.{append-nil}
-use Rattle.c_preproc.specs.Expander.{part_of}
+use Rattle.c_preproc.specs.Code.Expander.{part_of}
 use Rattle.c_preproc.proofs.Store.{copied_more, length-part, part_nothing}
 use Rattle.c_preproc.proofs.expander.copy.Goals as goal
 

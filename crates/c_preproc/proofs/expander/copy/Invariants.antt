@@ -1,5 +1,5 @@
 use Rattle.std.proofs.Common.{◌≡◌, ◌≤◌, ◌++◌}
-use Rattle.c_preproc.specs.Expander.{part_of}
+use Rattle.c_preproc.specs.Code.Expander.{part_of}
 use Rattle.c_preproc.proofs.expander.copy.Given as goal
 
 abbrev pub invariant-loop-at : goal.invariant-loop-at

@@ -1,5 +1,5 @@
 use Rattle.std.proofs.Common.{◌∙◌, ◌==◌, nat_lt, sym, ap, arith, get_or, false}
-use Rattle.c_preproc.specs.Expander.{entries_of}
+use Rattle.c_preproc.specs.Code.Expander.{entries_of}
 use Rattle.c_preproc.proofs.Seats.{entry_at, length-entries_of}
 use Rattle.c_preproc.proofs.Seats.{seat_in, seat_past, Seated}
 use Rattle.c_preproc.proofs.expander.is_expanded.Goals as goal

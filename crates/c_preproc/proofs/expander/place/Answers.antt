@@ -1,4 +1,4 @@
-use Rattle.std.proofs.Common.{◌≡◌, ◌++◌, map, take, length, ap, sym, ◌∙◌, arith, length-append}
+use Rattle.std.proofs.Common.{◌++◌, map, length, ap, sym, ◌∙◌, arith, length-append}
 use Rattle.c_preproc.proofs.Store.{placed_push}
 use Rattle.std.proofs.lemmas.List.{append-nil, length-map, take_all}
 use Rattle.c_preproc.specs.Macros.{placed_at}

@@ -2,8 +2,8 @@ use Rattle.std.proofs.Common.{drop, ◌∙◌, ap}
 use Rattle.std.proofs.lemmas.List.{nil_from_length}
 use Rattle.c_preproc.specs.Groups.{outermost}
 use Rattle.c_preproc.specs.declared.groups.Step.TheVariants.{Balanced, Misplaced, Alone}
-use Rattle.c_preproc.specs.Kinds.{command}
-use Rattle.c_preproc.specs.Nesting.{opens_of}
+use Rattle.c_preproc.specs.Code.Kinds.{command}
+use Rattle.c_preproc.specs.Code.Nesting.{opens_of}
 use Rattle.c_preproc.proofs.Balance.{on_plain, on_directive, on_misplaced, on_end}
 use Rattle.c_preproc.proofs.groups.unbalanced_line.Goals as goal
 

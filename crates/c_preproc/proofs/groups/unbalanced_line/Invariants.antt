@@ -1,7 +1,7 @@
 use Rattle.std.proofs.Common.{◌≡◌, [], length}
 use Rattle.c_preproc.specs.Directives.{blocks_of}
 use Rattle.c_preproc.specs.Groups.{earlier, unbalanced_line}
-use Rattle.c_preproc.specs.Nesting.{opens_of}
+use Rattle.c_preproc.specs.Code.Nesting.{opens_of}
 use Rattle.c_preproc.proofs.groups.unbalanced_line.Given as goal
 
 -- the earliest line so far, before those of what is left

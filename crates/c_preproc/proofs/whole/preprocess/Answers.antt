@@ -1,7 +1,6 @@
-use Rattle.std.proofs.Common.{Ok, ◌∙◌, ap, sym, subst, IsTrue, length}
+use Rattle.std.proofs.Common.{Ok, ◌∙◌, sym, subst, IsTrue, length}
 use Rattle.c_lexer.specs.List.{all_within}
-use Rattle.c_preproc.specs.Expansion.{with_digits}
-use Rattle.c_preproc.specs.Seen.{seen}
+use Rattle.c_preproc.specs.Code.Seen.{seen}
 use Rattle.c_preproc.proofs.Ends.{from_first, result_bytes, result_ends, result_within}
 use Rattle.c_preproc.proofs.whole.preprocess.Goals as goal
 

@@ -1,6 +1,4 @@
-use Rattle.std.proofs.Common.{◌∙◌, ap, refl, sym}
-use Rattle.c_preproc.specs.Expander.{setting_of, macros_of}
-use Rattle.c_preproc.specs.Macros.{placed_at}
+use Rattle.c_preproc.specs.Code.Expander.{setting_of}
 use Rattle.c_preproc.proofs.Steps.{placed_alone}
 use Rattle.c_preproc.proofs.expander.Expander.expand.Goals as goal
 

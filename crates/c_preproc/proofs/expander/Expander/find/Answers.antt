@@ -1,6 +1,5 @@
 use Rattle.std.proofs.Common.{ap, length, arith}
-use Rattle.c_preproc.specs.Expander.{setting_of}
-use Rattle.c_preproc.specs.Table.{place_of}
+use Rattle.c_preproc.specs.Code.Expander.{setting_of}
 use Rattle.c_preproc.proofs.LeftOut.{entry_below}
 use Rattle.c_preproc.proofs.expander.Expander.find.Goals as goal
 

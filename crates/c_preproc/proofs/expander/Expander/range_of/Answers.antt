@@ -1,5 +1,5 @@
-use Rattle.std.proofs.Common.{◌∙◌, ap, arith, length, sym}
-use Rattle.c_preproc.specs.Expander.{setting_of}
+use Rattle.std.proofs.Common.{ap, arith, length, sym}
+use Rattle.c_preproc.specs.Code.Expander.{setting_of}
 use Rattle.c_preproc.proofs.LeftOut.{entry_below}
 use Rattle.c_preproc.proofs.Steps.{known_range}
 use Rattle.c_preproc.proofs.expander.Expander.range_of.Goals as goal

@@ -1,6 +1,5 @@
-use Rattle.std.proofs.Common.{◌∙◌, arith, ap, length, sym}
-use Rattle.c_preproc.specs.Expander.{setting_of, found_of}
-use Rattle.c_preproc.proofs.LeftOut.{entry_below}
+use Rattle.std.proofs.Common.{◌∙◌, arith}
+use Rattle.c_preproc.specs.Code.Expander.{setting_of}
 use Rattle.c_preproc.proofs.Steps.{known_kept, new_below, opens, puts_hidden, puts_known, puts_plain, store_grown}
 use Rattle.c_preproc.proofs.expander.Expander.replace.Goals as goal
 

@@ -1,8 +1,6 @@
 -- A step takes the next token of the frame, or closes it: then its expansion is kept, or the frame outside of it is tainted.
-use Rattle.std.proofs.Common.{◌≡◌, ◌≤◌, ◌+◌, ◌∙◌, ◌++◌, ◌∷◌, [], get_or, set, List, arith, ap, length, sym, subst, refl}
-use Rattle.c_lexer.specs.declared.token.Token.{Token}
-use Rattle.c_preproc.specs.Expander.{setting_of, AllKept}
-use Rattle.c_preproc.specs.Table.{body_at}
+use Rattle.std.proofs.Common.{◌∙◌, arith, ap, length, sym, subst}
+use Rattle.c_preproc.specs.Code.Expander.{setting_of, AllKept}
 use Rattle.c_preproc.proofs.Steps.{closes_kept, closes_tainted, frame_below, takes, takes_step}
 use Rattle.c_preproc.proofs.Store.{body_is, token_next, token_taken}
 use Rattle.c_preproc.proofs.expander.Expander.step.Goals as goal

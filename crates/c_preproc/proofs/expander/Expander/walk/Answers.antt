@@ -1,6 +1,6 @@
 -- The walk: what was put into the store and what is left are together what stands for the name.
-use Rattle.std.proofs.Common.{◌≡◌, ◌+◌, ◌∙◌, arith, ap, length, sym}
-use Rattle.c_preproc.specs.Expander.{macros_of, setting_of}
+use Rattle.std.proofs.Common.{◌≡◌, ◌+◌, ◌∙◌, arith, length, sym}
+use Rattle.c_preproc.specs.Code.Expander.{macros_of, setting_of}
 use Rattle.c_preproc.specs.Expansion.{token_limit}
 use Rattle.c_preproc.specs.Macros.{replacement_of}
 use Rattle.c_preproc.proofs.LeftOut.{entry_below}

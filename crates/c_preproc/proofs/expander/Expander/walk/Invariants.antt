@@ -1,5 +1,5 @@
 use Rattle.std.specs.Prelude.{reverse}
-use Rattle.c_preproc.specs.Expander.{IsRunning, macros_of, setting_of, work_of}
+use Rattle.c_preproc.specs.Code.Expander.{IsRunning, macros_of, setting_of, work_of}
 use Rattle.c_preproc.specs.Macros.{replacement_of}
 use Rattle.c_preproc.proofs.expander.Expander.walk.Given as goal
 

@@ -1,5 +1,5 @@
 use Rattle.std.proofs.Common.{sym, ap, arith}
-use Rattle.c_preproc.specs.Table.{place_of}
+use Rattle.c_preproc.specs.Code.Table.{place_of}
 use Rattle.c_preproc.proofs.LeftOut.{leads_below}
 use Rattle.c_preproc.proofs.MacroTable.{body_absent, body_present}
 use Rattle.c_preproc.proofs.macros.Macros.body_of.Goals as goal

@@ -1,10 +1,9 @@
 -- A definition is one entry more, which the index leads to unless it had no memory for it.
-use Rattle.std.proofs.Common.{◌≡◌, ◌+◌, ◌≤◌, ◌∙◌, ◌∷◌, [], List, length, Some, None, ap, arith, sym, length-append}
-use Rattle.c_lexer.specs.declared.token.Token.{Token}
+use Rattle.std.proofs.Common.{◌≡◌, ◌∙◌, ◌∷◌, [], length, Some, None, ap, arith, sym, length-append}
 use Rattle.c_preproc.specs.declared.macros.Entry.{Entry}
-use Rattle.c_preproc.specs.Expander.{setting_of}
+use Rattle.c_preproc.specs.Code.Expander.{setting_of}
 use Rattle.c_preproc.specs.Macros.{Macro, macro_of}
-use Rattle.c_preproc.specs.Table.{defined_of, place_of}
+use Rattle.c_preproc.specs.Code.Table.{defined_of, place_of}
 use Rattle.c_preproc.proofs.MacroTable.{changed_by, made_indexed, made_macro, on_err, same_places, store_empty, unmade_indexed, unmade_macro}
 use Rattle.c_preproc.proofs.macros.Macros.define.Goals as goal
 

@@ -1,4 +1,4 @@
-use Rattle.c_preproc.specs.Table.{place_of}
+use Rattle.c_preproc.specs.Code.Table.{place_of}
 use Rattle.c_preproc.proofs.MacroTable.{first_defined}
 use Rattle.c_preproc.proofs.macros.Macros.empty.Goals as goal
 

@@ -1,7 +1,7 @@
-use Rattle.std.proofs.Common.{None, length, ◌∙◌, ap, arith, sym}
-use Rattle.c_preproc.specs.Expander.{setting_of}
+use Rattle.std.proofs.Common.{None, length, ◌∙◌, ap, arith}
+use Rattle.c_preproc.specs.Code.Expander.{setting_of}
 use Rattle.c_preproc.specs.Macros.{without}
-use Rattle.c_preproc.specs.Table.{place_of}
+use Rattle.c_preproc.specs.Code.Table.{place_of}
 use Rattle.c_preproc.specs.Texts.{text_of}
 use Rattle.c_preproc.proofs.MacroTable.{changed_by, defined_less, indexed_less, store_empty}
 use Rattle.c_preproc.proofs.macros.Macros.undefine.Goals as goal

@@ -4,8 +4,8 @@ use Rattle.std.specs.declared.alloc.Global.{Global}
 use Rattle.c_preproc.specs.declared.macros.Table.{Table}
 use Rattle.c_preproc.specs.declared.expander.Expander.{Expander}
 use Rattle.c_preproc.specs.Macros.{Definitions}
-use Rattle.c_preproc.specs.Table.{IsIndexed, defined_of, place_of}
-use Rattle.c_preproc.specs.Expander.{IsStore, setting_of}
+use Rattle.c_preproc.specs.Code.Table.{IsIndexed, defined_of, place_of}
+use Rattle.c_preproc.specs.Code.Expander.{IsStore, setting_of}
 
 abbrev pub definitions_of : Vec ℕ Global → Table → Definitions
 definitions_of bytes table = record { bytes = bytes.items; macros = defined_of (place_of table.index) table.entries.items }

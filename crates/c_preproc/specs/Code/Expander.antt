@@ -15,7 +15,7 @@ use Rattle.c_preproc.specs.declared.expander.Found.TheVariants as found
 use Rattle.c_preproc.specs.Texts.{text_of, is_name}
 use Rattle.c_preproc.specs.Expansion.{token_limit}
 use Rattle.c_preproc.specs.Macros.{Macro, macro_of, without, body_for, replacement_of}
-use Rattle.c_preproc.specs.Table.{place_of, defined_of, body_at, name_at, IsIndexed}
+use Rattle.c_preproc.specs.Code.Table.{place_of, defined_of, body_at, name_at}
 
 -- the bytes of which tokens are slices, the place of each name, and the entries
 pub record Setting : Type 0 where

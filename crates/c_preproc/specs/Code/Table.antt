@@ -2,7 +2,7 @@
 --
 -- An entry is defined if the index leads from its name to its place. So what is undefined only
 -- leaves the index, and its entry stays where it is.
-use Rattle.std.specs.Prelude.{◌≡◌, ℕ, suc, Bool, false, cond, not, ◌==◌, length, List, [], ◌∷◌, Option, Some, None, IsSomeAnd, slice_get, Vec}
+use Rattle.std.specs.Prelude.{◌≡◌, ℕ, suc, Bool, false, cond, ◌==◌, List, [], ◌∷◌, Option, Some, None, IsSomeAnd, slice_get, Vec}
 use Rattle.std.specs.declared.alloc.Global.{Global}
 use Rattle.std.specs.BTreeMap.{BTreeMap, get_by}
 use Rattle.std.specs.Cmp.Lexicographic.{slice_cmp}
