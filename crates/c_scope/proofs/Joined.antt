@@ -3,10 +3,10 @@ use Rattle.std.proofs.Common.{◌≡◌, ℕ, Bool, true, false, cond, ◌&&◌,
 use Rattle.std.specs.Option.{option_or}
 use Rattle.std.specs.Str.{bytes_eq}
 use Rattle.c_types.specs.declared.ctype.Part.{Part}
-use Rattle.typed_tree.specs.declared.declared.Linkage.{Linkage}
-use Rattle.typed_tree.specs.declared.declared.Linkage.TheVariants.{NoLinkage, Internal, External, Inherited}
-use Rattle.typed_tree.specs.declared.declared.Declared.{Declared}
-use Rattle.typed_tree.specs.declared.declared.Declared.TheVariants.{Object, Function, Typedef, Constant, Tag}
+use Rattle.c_tree.specs.declared.declared.Linkage.{Linkage}
+use Rattle.c_tree.specs.declared.declared.Linkage.TheVariants.{NoLinkage, Internal, External, Inherited}
+use Rattle.c_tree.specs.declared.declared.Declared.{Declared}
+use Rattle.c_tree.specs.declared.declared.Declared.TheVariants.{Object, Function, Typedef, Constant, Tag}
 use Rattle.c_scope.specs.declared.space.Space.TheVariants.{Ordinary, Tag as TagSpace}
 use Rattle.c_scope.specs.Blocks.{Named, declared_in, visible, innermost, with_declaration}
 use Rattle.c_scope.specs.Again.{same_part, same_linkage, linkage_of, has_linkage, settled_linkage, with_linkage, is_one_thing, joined, behind, beside, may_be_linked, declared_as}

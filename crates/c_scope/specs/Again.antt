@@ -6,10 +6,10 @@
 -- linkage in all scopes, with one body or initialiser at most.
 use Rattle.std.specs.Prelude.{Bool, true, false, not, ◌&&◌, ◌||◌, ◌==◌, if◌then◌else◌, Option, Some, None}
 use Rattle.c_types.specs.declared.ctype.Part.{Part}
-use Rattle.typed_tree.specs.declared.declared.Linkage.{Linkage}
-use Rattle.typed_tree.specs.declared.declared.Linkage.TheVariants.{NoLinkage, Internal, External, Inherited}
-use Rattle.typed_tree.specs.declared.declared.Declared.{Declared}
-use Rattle.typed_tree.specs.declared.declared.Declared.TheVariants.{Object, Function, Typedef, Constant, Tag}
+use Rattle.c_tree.specs.declared.declared.Linkage.{Linkage}
+use Rattle.c_tree.specs.declared.declared.Linkage.TheVariants.{NoLinkage, Internal, External, Inherited}
+use Rattle.c_tree.specs.declared.declared.Declared.{Declared}
+use Rattle.c_tree.specs.declared.declared.Declared.TheVariants.{Object, Function, Typedef, Constant, Tag}
 
 -- one type with the same qualifiers
 abbrev pub same_part : Part → Part → Bool

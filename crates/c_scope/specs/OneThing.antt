@@ -1,8 +1,8 @@
 -- One name with linkage is one thing, of one type and one linkage, in all scopes of a file.
 use Rattle.std.specs.Prelude.{◌≡◌, ℕ, true, List, [], ◌∷◌, Some}
 use Rattle.std.specs.Str.{bytes_eq}
-use Rattle.typed_tree.specs.declared.declared.Declared.{Declared}
-use Rattle.typed_tree.specs.declared.declared.Declared.TheVariants.{Object, Function}
+use Rattle.c_tree.specs.declared.declared.Declared.{Declared}
+use Rattle.c_tree.specs.declared.declared.Declared.TheVariants.{Object, Function}
 use Rattle.c_scope.specs.declared.space.Space.{Space}
 use Rattle.c_scope.specs.Blocks.{Named, innermost}
 use Rattle.c_scope.specs.Scopes.{Names, no_names, entered, left, with_name, declaration_in}

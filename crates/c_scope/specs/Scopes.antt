@@ -5,7 +5,7 @@ use Rattle.c_scope.specs.declared.space.Space.TheVariants.{Ordinary, Tag}
 use Rattle.c_scope.specs.Blocks.{Named, with_declaration, outer_blocks, visible, declared_in, innermost}
 use Rattle.c_scope.specs.Again.{has_linkage, declared_as}
 use Rattle.std.specs.Prelude.{Option}
-use Rattle.typed_tree.specs.declared.declared.Declared.{Declared}
+use Rattle.c_tree.specs.declared.declared.Declared.{Declared}
 
 -- the blocks of each name space, the innermost first, and in `linked` each declaration with linkage, also
 -- of blocks that were left

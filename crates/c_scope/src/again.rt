@@ -3,8 +3,8 @@
 ghost use Rattle.std.specs.Prelude.{◌≡◌, ◌&&◌, not};
 ghost use Rattle.c_scope.specs.Again.{same_linkage, linkage_of, has_linkage, is_linked, settled_linkage, with_linkage, is_one_thing, joined, behind, beside, may_be_linked, declared_as, same_part};
 
+use c_tree::{Declared, DeclaredFunction, DeclaredObject, DeclaredTag, Linkage};
 use c_types::Part;
-use typed_tree::{Declared, DeclaredFunction, DeclaredObject, DeclaredTag, Linkage};
 
 fn is_same_part(a: Part, b: Part) -> bool
     ensures { result ≡ same_part a b }

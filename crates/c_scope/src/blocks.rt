@@ -11,10 +11,10 @@ ghost use Rattle.std.specs.Cmp.Lexicographic.{slice_cmp};
 ghost use Rattle.std.specs.Ordering.{nat_cmp};
 ghost use Rattle.c_scope.specs.Stacks.{place_of, Changes, IsIndexed};
 
+use c_tree::Declared;
 use std::alloc::{AllocError, Global};
 use std::collections::BTreeMap;
 use std::marker::Model;
-use typed_tree::Declared;
 
 /// A declaration: its name, what it stands for, and the index of the declaration that it hides.
 #[derive(Drop)]

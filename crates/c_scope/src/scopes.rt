@@ -7,9 +7,9 @@ ghost use Rattle.c_scope.specs.Scopes.{with_linked};
 use crate::again::{declaration, has_its_linkage};
 use crate::blocks::Blocks;
 use crate::space::{DeclareFault, Space, Unknown};
+use c_tree::Declared;
 use std::alloc::{AllocError, Global};
 use std::marker::Model;
-use typed_tree::Declared;
 
 /// What names stand for where the checker is: in the open blocks, and as the declarations with linkage have
 /// it, also those of blocks that were left.

@@ -1,9 +1,9 @@
 //! Scopes as files open them, and pairs of declarations of one name.
 
 use super::*;
+use c_tree::{Declared, DeclaredFunction, DeclaredObject, DeclaredTag, Linkage, ObjectNumber};
 use c_types::{Part, Qualifiers, Tag};
 use std::test::Fail;
-use typed_tree::{Declared, DeclaredFunction, DeclaredObject, DeclaredTag, Linkage, ObjectNumber};
 
 /// A part of this type, const.
 fn part(number: u32) -> Part {

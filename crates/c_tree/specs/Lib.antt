@@ -1,4 +1,4 @@
 pub mod Plain
+pub mod Operands
 pub mod Temps
 pub mod Fits
-pub mod Lists

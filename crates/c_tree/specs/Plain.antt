@@ -1,12 +1,13 @@
--- A program as contracts see it: a plain record of a list and a number.
+-- A program as contracts see it: its functions and its static objects, each at its number, and the number of
+-- `main`.
 use Rattle.std.specs.Prelude.{ℕ, List}
+use Rattle.filc_num.specs.declared.statics.StaticDef.{StaticDef}
 use Rattle.c_tree.specs.declared.program.FunctionDef.{FunctionDef}
 
--- the functions, each at its number, and the number of `main`
 pub record PlainProgram : Type 0 where
   pub functions : List FunctionDef
+  pub statics : List StaticDef
   pub main : ℕ
 
--- the program of these functions
-abbrev pub plain_program : List FunctionDef → ℕ → PlainProgram
-plain_program functions main = record { functions = functions; main = main }
+abbrev pub plain_program : List FunctionDef → List StaticDef → ℕ → PlainProgram
+plain_program functions statics main = record { functions = functions; statics = statics; main = main }

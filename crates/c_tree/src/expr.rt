@@ -1,45 +1,53 @@
 //! Expressions.
+//!
+//! An expression evaluates its operands from left to right and then does one operation on their values.
+//! Operators of one level, commas, postfix operators and conversions are links of a chain, so an expression
+//! nests only where the file's nesting is counted.
 
-use filc_num::{BinOp, IntType};
+use crate::operation::{Operation, Piece};
 use sqlite_items::{Boxed, Items};
 
-/// An expression. `line` is the line of its first token, and `ty` the type of its value.
+/// An expression. `line` is the line of its first token.
 #[cycle(expr)]
 #[derive(Drop)]
 pub enum Expr {
-    /// A constant. `value` is kept as every value of a type is: sign- or zero-extended to 64 bits.
-    Number {
+    /// An operation on operands.
+    Apply {
         line: u32,
-        ty: IntType,
-        value: u64,
+        op: Operation,
+        operands: Items<Expr>,
     },
-    /// The value of a local variable.
-    Local {
-        line: u32,
-        ty: IntType,
-        local: u32,
-    },
-    /// `-operand`, computed in the type `ty`.
-    Negate {
-        line: u32,
-        ty: IntType,
-        operand: Boxed<Expr>,
-    },
-    /// `first op operand op operand ..`, grouped to the left: each link applies its operator to
-    /// what stands before it and to its own operand.
+    /// What each link's operation gives is the first operand of the next link's.
     Chain {
         line: u32,
         first: Boxed<Expr>,
         links: Items<Link>,
     },
+    /// `&&` where `all`, else `||`: the operands up to the first that decides.
+    Logic {
+        line: u32,
+        all: bool,
+        operands: Items<Expr>,
+    },
+    /// `test ? then : otherwise`
+    Choose {
+        line: u32,
+        test: Boxed<Expr>,
+        then: Boxed<Expr>,
+        otherwise: Boxed<Expr>,
+    },
+    /// `printf`: the operands, and then the pieces between the lock of the output and its release.
+    Print {
+        line: u32,
+        operands: Items<Expr>,
+        pieces: Items<Piece>,
+    },
 }
 
-/// An operator with its right operand. `ty` is the type in which it is computed, and both operands
-/// are converted to it before, but the count of a shift isn't.
+/// An operation with the operands behind the first.
 #[cycle(expr)]
 #[derive(Drop)]
 pub struct Link {
-    pub op: BinOp,
-    pub ty: IntType,
-    pub operand: Expr,
+    pub op: Operation,
+    pub operands: Items<Expr>,
 }

@@ -1,21 +1,23 @@
 //! The typed tree: a program whose names are resolved and whose conversions are explicit.
 //!
-//! The checker makes it, the meaning of a run is defined on it (`tree_play`), and the compiler goes
-//! over it. Functions and locals are numbers, and each node knows its line.
+//! The checker makes it, the meaning of a run is defined on it, and the compiler goes over it. Functions,
+//! statics and locals are numbers, and each node knows its line. There is no type of places: a place in memory
+//! is the value of a pointer expression, and a local without a home is its number. Reading a place is `Load`;
+//! decay and `&` leave no trace.
 //!
-//! A file may nest to a stated depth, but its chains of operators of one level and its lists of
-//! statements are as long as it likes. So these are lists in the tree too, and whoever walks it
-//! recurses by nesting alone.
-//!
-//! Read `specs/Fits.antt` first. It says what a tree keeps.
+//! Read `specs/Fits.antt` first. It says what a program keeps.
 #![tactic(auto)]
 
+mod declared;
 mod expr;
+mod operation;
 mod program;
 mod stmt;
-mod temps;
 
+pub use declared::{
+    Declared, DeclaredFunction, DeclaredObject, DeclaredTag, Linkage, ObjectNumber,
+};
 pub use expr::{Expr, Link};
+pub use operation::{Access, Change, Operation, Piece, Unit};
 pub use program::{FunctionDef, Program};
-pub use stmt::{LocalDef, Stmt};
-pub use temps::{expr_temps, statement_temps};
+pub use stmt::{Case, LocalDef, LocalKind, Stmt};

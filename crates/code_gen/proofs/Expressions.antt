@@ -4,8 +4,8 @@ use Rattle.std.specs.Prelude.{slice_get}
 use Rattle.filc_num.specs.declared.integer.IntType.{IntType}
 use Rattle.filc_num.specs.declared.integer.BinOp.{BinOp}
 use Rattle.filc_num.specs.declared.integer.BinOp.TheVariants.{Sub}
-use Rattle.c_tree.specs.declared.expr.Expr.{Expr, Number, Local, Negate', Chain', end_of-Expr, more_of-Expr, Row_of-Link, end_of-Link, more_of-Link}
-use Rattle.c_tree.specs.Fits.{ExprFits, LinksFit}
+use Rattle.form_tree.specs.declared.expr.Expr.{Expr, Number, Local, Negate', Chain', end_of-Expr, more_of-Expr, Row_of-Link, end_of-Link, more_of-Link}
+use Rattle.form_tree.specs.Fits.{ExprFits, LinksFit}
 use Rattle.filc_code.specs.declared.op.Op.TheVariants.{Const, Move, Binary}
 use Rattle.filc_code.specs.Numbers.{operator_number, type_at, type_number}
 use Rattle.ideal_machine.specs.declared.value.Value.{Value}

@@ -7,13 +7,13 @@ use Rattle.filc_num.specs.declared.integer.BinOp.{BinOp}
 use Rattle.filc_num.specs.declared.integer.BinOp.TheVariants.{Add, Sub, Mul, Div, Rem, And, Or, Xor, Shl, Shr, Lt, Le, Gt, Ge, Eq, Ne}
 use Rattle.filc_num.specs.declared.integer.IntType.{IntType}
 use Rattle.filc_num.specs.declared.integer.IntType.TheVariants.{Bool as BoolType, I8, U8, I16, U16, I32, U32, I64, U64}
-use Rattle.c_tree.specs.declared.expr.Expr.{Expr, Number, Local, Negate', Chain', Row_of-Link, end_of-Expr, more_of-Expr, end_of-Link, more_of-Link}
-use Rattle.c_tree.specs.declared.stmt.LocalDef.{LocalDef}
-use Rattle.c_tree.specs.declared.stmt.Stmt.{Stmt, Empty, Assign, While', Block', PutChar, Return, Row_of-Stmt, end_of-Stmt, more_of-Stmt}
-use Rattle.c_tree.specs.declared.program.FunctionDef.{FunctionDef}
-use Rattle.c_tree.specs.Plain.{PlainProgram}
-use Rattle.c_tree.specs.Fits.{ExprFits, LinksFit, StmtFits, StmtsFit, FunctionFits, IsProgram}
-use Rattle.c_tree.specs.Temps.{temps_of, links_temps, stmt_temps, stmts_temps, values_of}
+use Rattle.form_tree.specs.declared.expr.Expr.{Expr, Number, Local, Negate', Chain', Row_of-Link, end_of-Expr, more_of-Expr, end_of-Link, more_of-Link}
+use Rattle.form_tree.specs.declared.stmt.LocalDef.{LocalDef}
+use Rattle.form_tree.specs.declared.stmt.Stmt.{Stmt, Empty, Assign, While', Block', PutChar, Return, Row_of-Stmt, end_of-Stmt, more_of-Stmt}
+use Rattle.form_tree.specs.declared.program.FunctionDef.{FunctionDef}
+use Rattle.form_tree.specs.Plain.{PlainProgram}
+use Rattle.form_tree.specs.Fits.{ExprFits, LinksFit, StmtFits, StmtsFit, FunctionFits, IsProgram}
+use Rattle.form_tree.specs.Temps.{temps_of, links_temps, stmt_temps, stmts_temps, values_of}
 use Rattle.filc_code.specs.declared.op.Instruction.{Instruction}
 use Rattle.filc_code.specs.declared.op.Op.TheVariants.{Const, Move, Binary, Jump, JumpZero, Return as ReturnOp, Out}
 use Rattle.filc_code.specs.Numbers.{operator_number, type_number}

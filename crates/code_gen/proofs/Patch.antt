@@ -4,8 +4,8 @@ use Rattle.std.specs.Prelude.{slice_set}
 use Rattle.std.proofs.Math.Seq.{set-append_seam}
 use Rattle.filc_code.specs.declared.op.Instruction.{Instruction}
 use Rattle.filc_code.specs.declared.op.Op.TheVariants.{Jump, JumpZero}
-use Rattle.c_tree.specs.declared.stmt.LocalDef.{LocalDef}
-use Rattle.c_tree.specs.declared.stmt.Stmt.{Stmt, Block}
+use Rattle.form_tree.specs.declared.stmt.LocalDef.{LocalDef}
+use Rattle.form_tree.specs.declared.stmt.Stmt.{Stmt, Block}
 use Rattle.code_gen.specs.Code.{at_line, while_code, zeros_code, stmt_code}
 use Rattle.code_gen.specs.Lists.{stmt_list_code}
 use Rattle.code_gen.proofs.Views.{block_code}

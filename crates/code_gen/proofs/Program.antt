@@ -9,9 +9,9 @@ use Rattle.std.proofs.lemmas.Bool.{cases_lt}
 use Rattle.std.proofs.lemmas.List.Elements.{All-get_or}
 use Rattle.std.proofs.lemmas.Option.{slice_get-map, slice_get_within, get_or_from_slice_get}
 use Rattle.filc_num.specs.declared.registers.TheConstants.{REGISTERS}
-use Rattle.c_tree.specs.declared.program.FunctionDef.{FunctionDef}
-use Rattle.c_tree.specs.Plain.{PlainProgram}
-use Rattle.c_tree.specs.Fits.{FunctionFits, IsProgram}
+use Rattle.form_tree.specs.declared.program.FunctionDef.{FunctionDef}
+use Rattle.form_tree.specs.Plain.{PlainProgram}
+use Rattle.form_tree.specs.Fits.{FunctionFits, IsProgram}
 use Rattle.filc_code.specs.declared.op.Op.TheVariants.{Const, Return as ReturnOp}
 use Rattle.ideal_machine.specs.declared.value.Value.{Value}
 use Rattle.ideal_machine.specs.declared.event.Answer.{Answer}

@@ -1,9 +1,9 @@
 -- The code of a statement runs its play: by its flow it lands at the stretch's end, or at a return.
 use Rattle.std.proofs.Common.{◌≡◌, ℕ, zero, suc, ◌+◌, ◌≤◌, List, [], ◌∷◌, ◌++◌, length, Some, refl, sym, ap, subst, arith}
 use Rattle.std.specs.Prelude.{slice_get}
-use Rattle.c_tree.specs.declared.stmt.LocalDef.{LocalDef}
-use Rattle.c_tree.specs.declared.stmt.Stmt.{Stmt, Empty, Assign, While', Block', PutChar, Return, Row_of-Stmt, end_of-Stmt, more_of-Stmt}
-use Rattle.c_tree.specs.Fits.{StmtFits, StmtsFit}
+use Rattle.form_tree.specs.declared.stmt.LocalDef.{LocalDef}
+use Rattle.form_tree.specs.declared.stmt.Stmt.{Stmt, Empty, Assign, While', Block', PutChar, Return, Row_of-Stmt, end_of-Stmt, more_of-Stmt}
+use Rattle.form_tree.specs.Fits.{StmtFits, StmtsFit}
 use Rattle.filc_code.specs.declared.op.Instruction.{Instruction}
 use Rattle.filc_code.specs.declared.op.Op.TheVariants.{Const, Move, Jump, JumpZero, Return as ReturnOp, Out}
 use Rattle.ideal_machine.specs.declared.value.Value.{Value}

@@ -2,12 +2,12 @@
 use Rattle.std.proofs.Common.{◌≡◌, ℕ, ◌+◌, List, [], ◌∷◌, ◌++◌, length, refl, ap, ◌∙◌}
 use Rattle.filc_num.specs.declared.integer.BinOp.TheVariants.{Sub}
 use Rattle.filc_num.specs.declared.integer.IntType.{IntType}
-use Rattle.c_tree.specs.declared.expr.Expr.{Expr, Negate, Chain, Row_of-Link, end_of-Link, more_of-Link, items-the_row-Link}
-use Rattle.c_tree.specs.declared.expr.Expr.TheBlock.{hidden-the_row-Expr-0, shape-the_row-Expr-0, hidden-the_row-Link-1, items_hidden-the_row-Link-1}
-use Rattle.c_tree.specs.declared.expr.Link.{Link}
-use Rattle.c_tree.specs.declared.stmt.LocalDef.{LocalDef}
-use Rattle.c_tree.specs.declared.stmt.Stmt.{Stmt, While, Block, Row_of-Stmt, end_of-Stmt, more_of-Stmt, items-the_row-Stmt}
-use Rattle.c_tree.specs.declared.stmt.Stmt.TheBlock.{hidden-the_row-Stmt-0, shape-the_row-Stmt-0, hidden-the_row-Stmt-1, items_hidden-the_row-Stmt-1}
+use Rattle.form_tree.specs.declared.expr.Expr.{Expr, Negate, Chain, Row_of-Link, end_of-Link, more_of-Link, items-the_row-Link}
+use Rattle.form_tree.specs.declared.expr.Expr.TheBlock.{hidden-the_row-Expr-0, shape-the_row-Expr-0, hidden-the_row-Link-1, items_hidden-the_row-Link-1}
+use Rattle.form_tree.specs.declared.expr.Link.{Link}
+use Rattle.form_tree.specs.declared.stmt.LocalDef.{LocalDef}
+use Rattle.form_tree.specs.declared.stmt.Stmt.{Stmt, While, Block, Row_of-Stmt, end_of-Stmt, more_of-Stmt, items-the_row-Stmt}
+use Rattle.form_tree.specs.declared.stmt.Stmt.TheBlock.{hidden-the_row-Stmt-0, shape-the_row-Stmt-0, hidden-the_row-Stmt-1, items_hidden-the_row-Stmt-1}
 use denote.Hole.Carrier
 use Rattle.filc_code.specs.declared.op.Op.TheVariants.{Const, Binary}
 use Rattle.filc_code.specs.Numbers.{operator_number, type_number}

@@ -4,12 +4,12 @@
 -- first temporary. Operands to its right go into the registers after that one.
 use Rattle.std.specs.Prelude.{ℕ, ◌+◌, List, [], ◌∷◌, ◌++◌, length, map, false}
 use Rattle.filc_num.specs.declared.integer.BinOp.TheVariants.{Sub}
-use Rattle.c_tree.specs.declared.expr.Expr.{Expr, Number, Local, Negate', Chain', end_of-Expr, more_of-Expr, Row_of-Link, end_of-Link, more_of-Link}
-use Rattle.c_tree.specs.declared.stmt.LocalDef.{LocalDef}
-use Rattle.c_tree.specs.declared.stmt.Stmt.{Stmt, Empty, Assign, While', Block', PutChar, Return, Row_of-Stmt, end_of-Stmt, more_of-Stmt}
-use Rattle.c_tree.specs.declared.program.FunctionDef.{FunctionDef}
-use Rattle.c_tree.specs.Plain.{PlainProgram}
-use Rattle.c_tree.specs.Temps.{values_of}
+use Rattle.form_tree.specs.declared.expr.Expr.{Expr, Number, Local, Negate', Chain', end_of-Expr, more_of-Expr, Row_of-Link, end_of-Link, more_of-Link}
+use Rattle.form_tree.specs.declared.stmt.LocalDef.{LocalDef}
+use Rattle.form_tree.specs.declared.stmt.Stmt.{Stmt, Empty, Assign, While', Block', PutChar, Return, Row_of-Stmt, end_of-Stmt, more_of-Stmt}
+use Rattle.form_tree.specs.declared.program.FunctionDef.{FunctionDef}
+use Rattle.form_tree.specs.Plain.{PlainProgram}
+use Rattle.form_tree.specs.Temps.{values_of}
 use Rattle.filc_code.specs.declared.op.Instruction.{Instruction}
 use Rattle.filc_code.specs.declared.op.Op.{Op}
 use Rattle.filc_code.specs.declared.op.Op.TheVariants.{Const, Move, Binary, Jump, JumpZero, Return as ReturnOp, Out}

@@ -6,8 +6,8 @@
 -- the play whose n is one more than the backward jumps that the code made has the same behaviour; where the code
 -- was cut by its bound, its events are a prefix of the play's.
 use Rattle.std.specs.Prelude.{◌≡◌, ℕ, ◌+◌, List}
-use Rattle.c_tree.specs.Plain.{PlainProgram}
-use Rattle.c_tree.specs.Fits.{IsProgram}
+use Rattle.form_tree.specs.Plain.{PlainProgram}
+use Rattle.form_tree.specs.Fits.{IsProgram}
 use Rattle.filc_code.specs.Plain.{PlainCode}
 use Rattle.ideal_machine.specs.declared.event.Answer.{Answer}
 use Rattle.ideal_machine.specs.Play.{log_of}

@@ -1,7 +1,7 @@
 -- The same code over the lists that a tree keeps, as the compiler meets their elements.
 use Rattle.std.specs.Prelude.{ℕ, ◌+◌, List, [], ◌∷◌, ◌++◌, length}
-use Rattle.c_tree.specs.declared.expr.Link.{Link}
-use Rattle.c_tree.specs.declared.stmt.Stmt.{Stmt}
+use Rattle.form_tree.specs.declared.expr.Link.{Link}
+use Rattle.form_tree.specs.declared.stmt.Stmt.{Stmt}
 use Rattle.filc_code.specs.declared.op.Instruction.{Instruction}
 use Rattle.filc_code.specs.declared.op.Op.TheVariants.{Binary}
 use Rattle.filc_code.specs.Numbers.{operator_number, type_number}

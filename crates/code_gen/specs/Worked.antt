@@ -1,9 +1,9 @@
 -- Worked examples of what plays no program: code that idles makes backward jumps that the play doesn't make.
 use Rattle.std.specs.Prelude.{List, [], ◌∷◌}
 use Rattle.filc_num.specs.declared.integer.IntType.TheVariants.{I32}
-use Rattle.c_tree.specs.declared.expr.Expr.TheVariants as expr
-use Rattle.c_tree.specs.declared.stmt.Stmt.TheVariants as stmt
-use Rattle.c_tree.specs.Plain.{PlainProgram, plain_program}
+use Rattle.form_tree.specs.declared.expr.Expr.TheVariants as expr
+use Rattle.form_tree.specs.declared.stmt.Stmt.TheVariants as stmt
+use Rattle.form_tree.specs.Plain.{PlainProgram, plain_program}
 use Rattle.filc_code.specs.declared.op.Instruction.{Instruction}
 use Rattle.filc_code.specs.declared.op.Op.TheVariants.{Const, Jump, Return}
 use Rattle.filc_code.specs.Plain.{PlainCode}

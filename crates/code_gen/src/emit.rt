@@ -1,14 +1,14 @@
 //! Emitting the code of expressions, statements and functions, one after another into one list.
 
 ghost use Rattle.std.specs.Prelude.{◌≡◌, ◌+◌, ◌<◌, [], ◌∷◌, ◌++◌, length, IfOk, OnOk};
-ghost use Rattle.c_tree.specs.Fits.{FunctionFits};
-ghost use Rattle.c_tree.specs.Temps.{temps_of, stmt_temps};
+ghost use Rattle.form_tree.specs.Fits.{FunctionFits};
+ghost use Rattle.form_tree.specs.Temps.{temps_of, stmt_temps};
 ghost use Rattle.filc_code.specs.Plain.{plain_function};
 ghost use Rattle.code_gen.specs.Code.{at_line, expr_code, zeros_code, with_stmt, function_code};
 
-use c_tree::{Expr, FunctionDef, LocalDef, Stmt};
 use filc_code::{CodeFunction, Instruction, Op, operator_number, type_number};
 use filc_num::{BinOp, REGISTERS};
+use form_tree::{Expr, FunctionDef, LocalDef, Stmt};
 use std::alloc::{AllocError, Global};
 
 /// The number of the type `int(void)`, which every function has: 0 is that of `int(void*)`.

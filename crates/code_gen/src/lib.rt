@@ -15,8 +15,8 @@ ghost use Rattle.code_gen.specs.Correct.{Plays};
 mod emit;
 pub mod laws;
 
-use c_tree::Program;
 use filc_code::Code;
+use form_tree::Program;
 use std::alloc::{AllocError, Global};
 
 /// The code of a program, which plays it: for the same answers it makes the same events and ends

@@ -4,7 +4,7 @@ use Rattle.std.specs.Prelude.{Option, Some, None, IfSome, IsSomeAnd}
 use Rattle.std.proofs.lemmas.List.{take_all, length-take}
 use Rattle.filc_io.specs.Outside.{FilesState, file_named}
 use Rattle.filc_io.specs.declared.outside.TheConstants.{MOST_READ}
-use Rattle.c_tree.specs.Plain.{PlainProgram}
+use Rattle.form_tree.specs.Plain.{PlainProgram}
 use Rattle.form_reader.specs.Form.{HasForm}
 use Rattle.filc_top.specs.Commands.{IsRun}
 use Rattle.filc_top.specs.Headline.{IsFile, IsRunOf, IsCause, unread, refused, ran, no_memory}

@@ -11,7 +11,7 @@
 use Rattle.std.specs.Prelude.{◌≡◌, ◌⊎◌, ℕ, List, [], Option, Some, None}
 use Rattle.filc_io.specs.Counts.{HasRisen}
 use Rattle.filc_io.specs.Outside.{FilesState, SinkState, Takes, file_named}
-use Rattle.c_tree.specs.Plain.{PlainProgram}
+use Rattle.form_tree.specs.Plain.{PlainProgram}
 use Rattle.form_reader.specs.Form.{HasForm}
 use Rattle.filc_code.specs.Plain.{PlainCode}
 use Rattle.ideal_machine.specs.declared.finish.Finish.{Finish}

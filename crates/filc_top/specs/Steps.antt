@@ -3,7 +3,7 @@ use Rattle.std.specs.Prelude.{◌≡◌, ◌⊎◌, ℕ, List, take}
 use Rattle.filc_io.specs.Counts.{HasRisen}
 use Rattle.filc_io.specs.Outside.{FilesState}
 use Rattle.filc_io.specs.declared.outside.TheConstants.{MOST_READ}
-use Rattle.c_tree.specs.Plain.{PlainProgram}
+use Rattle.form_tree.specs.Plain.{PlainProgram}
 use Rattle.form_reader.specs.Form.{HasForm}
 use Rattle.filc_top.specs.Endings.{not_built}
 use Rattle.filc_top.specs.Headline.{IsFile, HasNoFile}

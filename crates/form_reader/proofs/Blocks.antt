@@ -1,9 +1,9 @@
 -- How the readers of `;`, of blocks and of lists of statements are put together.
 use Rattle.std.proofs.Common.{◌≡◌, ℕ, ◌-◌, ◌<◌, ◌⊎◌, inl, inr, Bool, List, [], ◌∷◌, ◌++◌, length, refl, sym, ap, subst, ◌∙◌, arith, append_assoc, append-nil, length-append}
 use Rattle.std.specs.Prelude.{Ok, Err}
-use Rattle.c_tree.specs.declared.stmt.LocalDef.{LocalDef}
-use Rattle.c_tree.specs.declared.stmt.Stmt.{Stmt}
-use Rattle.c_tree.specs.declared.stmt.Stmt.TheVariants as stmt
+use Rattle.form_tree.specs.declared.stmt.LocalDef.{LocalDef}
+use Rattle.form_tree.specs.declared.stmt.Stmt.{Stmt}
+use Rattle.form_tree.specs.declared.stmt.Stmt.TheVariants as stmt
 use Rattle.form_reader.specs.declared.form.ReadFault.{ReadFault}
 use Rattle.form_reader.specs.declared.form.ReadFault.TheVariants.{NotForm}
 use Rattle.form_reader.specs.Lexemes.{Lexeme, Run, Mark, Twin}

@@ -4,9 +4,9 @@ use Rattle.std.specs.Prelude.{Option, Some, None, Ok, Err, Result, IfSome, IfNon
 use Rattle.std.specs.Option.{ok_or}
 use Rattle.filc_num.specs.declared.integer.BinOp.{BinOp}
 use Rattle.filc_num.specs.declared.integer.IntType.TheVariants.{I32}
-use Rattle.c_tree.specs.declared.expr.Expr.{Expr}
-use Rattle.c_tree.specs.declared.expr.Expr.TheVariants as expr
-use Rattle.c_tree.specs.declared.expr.Link.{Link, out-Link}
+use Rattle.form_tree.specs.declared.expr.Expr.{Expr}
+use Rattle.form_tree.specs.declared.expr.Expr.TheVariants as expr
+use Rattle.form_tree.specs.declared.expr.Link.{Link, out-Link}
 use Rattle.form_reader.specs.declared.form.ReadFault.{ReadFault}
 use Rattle.form_reader.specs.declared.form.ReadFault.TheVariants.{NotForm, NoMemory}
 use Rattle.form_reader.specs.Lexemes.{Lexeme, Run, Mark, Twin}

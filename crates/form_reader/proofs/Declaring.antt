@@ -5,8 +5,8 @@ use Rattle.std.specs.Str.{bytes_eq}
 use Rattle.std.specs.Cmp.Lexicographic.{same_text}
 use Rattle.std.proofs.lemmas.List.Quantifiers.{position-Some}
 use Rattle.std.proofs.lemmas.List.Elements.{All-nil, All-cons}
-use Rattle.c_tree.specs.declared.stmt.LocalDef.{LocalDef}
-use Rattle.c_tree.specs.declared.stmt.Stmt.{Stmt}
+use Rattle.form_tree.specs.declared.stmt.LocalDef.{LocalDef}
+use Rattle.form_tree.specs.declared.stmt.Stmt.{Stmt}
 use Rattle.form_reader.specs.Grammar.{AreStmts, IsStmt}
 use Rattle.form_reader.proofs.Worded.{WordCase, return_case, assign_case, loop_case, put_case, word_case, differ}
 use Rattle.form_reader.specs.Lexemes.{Lexeme, Run, Mark}

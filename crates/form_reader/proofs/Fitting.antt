@@ -7,14 +7,14 @@ use Rattle.std.proofs.lemmas.List.Elements.{All-nil}
 use Rattle.filc_num.specs.Integers.{is_promoted}
 use Rattle.filc_num.specs.declared.integer.IntType.{IntType}
 use Rattle.filc_num.specs.declared.integer.IntType.TheVariants.{I32}
-use Rattle.c_tree.specs.declared.expr.Expr.{Expr, Negate, Chain, Row_of-Link, end_of-Link, more_of-Link, items-the_row-Link}
-use Rattle.c_tree.specs.declared.expr.Expr.TheBlock.{hidden-the_row-Expr-0, shape-the_row-Expr-0, hidden-the_row-Link-1, items_hidden-the_row-Link-1}
-use Rattle.c_tree.specs.declared.expr.Link.{Link, out-Link}
-use Rattle.c_tree.specs.declared.stmt.LocalDef.{LocalDef}
-use Rattle.c_tree.specs.declared.stmt.Stmt.{Stmt, While, Block, Row_of-Stmt, end_of-Stmt, more_of-Stmt, items-the_row-Stmt}
-use Rattle.c_tree.specs.declared.stmt.Stmt.TheBlock.{hidden-the_row-Stmt-0, shape-the_row-Stmt-0, hidden-the_row-Stmt-1, items_hidden-the_row-Stmt-1}
+use Rattle.form_tree.specs.declared.expr.Expr.{Expr, Negate, Chain, Row_of-Link, end_of-Link, more_of-Link, items-the_row-Link}
+use Rattle.form_tree.specs.declared.expr.Expr.TheBlock.{hidden-the_row-Expr-0, shape-the_row-Expr-0, hidden-the_row-Link-1, items_hidden-the_row-Link-1}
+use Rattle.form_tree.specs.declared.expr.Link.{Link, out-Link}
+use Rattle.form_tree.specs.declared.stmt.LocalDef.{LocalDef}
+use Rattle.form_tree.specs.declared.stmt.Stmt.{Stmt, While, Block, Row_of-Stmt, end_of-Stmt, more_of-Stmt, items-the_row-Stmt}
+use Rattle.form_tree.specs.declared.stmt.Stmt.TheBlock.{hidden-the_row-Stmt-0, shape-the_row-Stmt-0, hidden-the_row-Stmt-1, items_hidden-the_row-Stmt-1}
 use denote.Hole.Carrier
-use Rattle.c_tree.specs.Fits.{ExprFits, LinksFit, StmtFits, StmtsFit}
+use Rattle.form_tree.specs.Fits.{ExprFits, LinksFit, StmtFits, StmtsFit}
 use Rattle.form_reader.specs.Lexemes.{Lexeme}
 use Rattle.form_reader.specs.Grammar.{front_line, ExprSpelling, StmtSpelling, AreLinks, IsChain, single, several, IsOfRank, IsLeaf, number, local, leaf, bracketed, negated, IsPrefix, IsExpr, AreStmts, IsClosed, IsFlat, empty, returned, IsDeep, assign, loop, block, put, IsStmt}
 

@@ -5,8 +5,8 @@ use Rattle.std.specs.Fmt.{decimal}
 use Rattle.std.specs.Str.{bytes_eq}
 use Rattle.std.proofs.lemmas.Bool.{both_ways}
 use Rattle.filc_num.specs.declared.integer.IntType.TheVariants.{I32}
-use Rattle.c_tree.specs.declared.expr.Expr.{Expr}
-use Rattle.c_tree.specs.declared.expr.Expr.TheVariants as expr
+use Rattle.form_tree.specs.declared.expr.Expr.{Expr}
+use Rattle.form_tree.specs.declared.expr.Expr.TheVariants as expr
 use Rattle.form_reader.specs.Lexemes.{Run, begins, is_letter}
 use Rattle.form_reader.specs.Grammar.{IsLeaf, number, local}
 use Rattle.form_reader.specs.declared.form.TheConstants.{MOST_NUMBER}

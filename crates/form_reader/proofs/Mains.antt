@@ -1,13 +1,13 @@
 -- How `main` and a whole file are put together.
 use Rattle.std.proofs.Common.{◌≡◌, ℕ, ◌-◌, ◌<◌, ◌≤◌, Bool, true, false, List, [], ◌∷◌, ◌++◌, length, map, refl, sym, ap, subst, ◌∙◌, arith, codes}
 use Rattle.std.specs.Prelude.{Ok, Err, Result, IfOk}
-use Rattle.c_tree.specs.declared.stmt.LocalDef.{LocalDef}
-use Rattle.c_tree.specs.declared.stmt.Stmt.{Stmt}
-use Rattle.c_tree.specs.declared.stmt.Stmt.TheVariants.{Block}
-use Rattle.c_tree.specs.declared.program.FunctionDef.{FunctionDef}
-use Rattle.c_tree.specs.Fits.{StmtFits}
-use Rattle.c_tree.specs.Plain.{PlainProgram, plain_program}
-use Rattle.c_tree.specs.Temps.{values_of}
+use Rattle.form_tree.specs.declared.stmt.LocalDef.{LocalDef}
+use Rattle.form_tree.specs.declared.stmt.Stmt.{Stmt}
+use Rattle.form_tree.specs.declared.stmt.Stmt.TheVariants.{Block}
+use Rattle.form_tree.specs.declared.program.FunctionDef.{FunctionDef}
+use Rattle.form_tree.specs.Fits.{StmtFits}
+use Rattle.form_tree.specs.Plain.{PlainProgram, plain_program}
+use Rattle.form_tree.specs.Temps.{values_of}
 use Rattle.form_reader.specs.declared.form.ReadFault.{ReadFault}
 use Rattle.form_reader.specs.declared.form.ReadFault.TheVariants.{NotForm, NoMemory}
 use Rattle.form_reader.specs.declared.form.TheConstants.{MOST_BYTES, MOST_NESTING, MOST_VALUES, INTRO}

@@ -4,9 +4,9 @@ use Rattle.std.specs.Prelude.{Some, None}
 use Rattle.std.specs.Fmt.{decimal}
 use Rattle.std.proofs.lemmas.Fmt.{decimal_injective}
 use Rattle.filc_num.specs.declared.integer.IntType.TheVariants.{I32}
-use Rattle.c_tree.specs.declared.expr.Expr.{Expr}
-use Rattle.c_tree.specs.declared.expr.Expr.TheVariants as expr
-use Rattle.c_tree.specs.declared.expr.Link.{Link, out-Link}
+use Rattle.form_tree.specs.declared.expr.Expr.{Expr}
+use Rattle.form_tree.specs.declared.expr.Expr.TheVariants as expr
+use Rattle.form_tree.specs.declared.expr.Link.{Link, out-Link}
 use Rattle.form_reader.specs.Lexemes.{Lexeme, Run, Mark, begins, is_letter}
 use Rattle.form_reader.specs.Grammar.{ExprSpelling, front_line, operator_of, AreLinks, IsChain, single, several, IsOfRank, IsLeaf, number, local, IsPrefixed, leaf, bracketed, negated, IsPrefix, IsExpr, IsClosed}
 use Rattle.form_reader.specs.Reading.{HasNoOperator, EndsRank, EndsAnywhere}

@@ -1,7 +1,7 @@
 -- A file is of one program.
 use Rattle.std.proofs.Common.{◌≡◌, ℕ, Bool, true, false, List, [], ◌∷◌, ◌++◌, length, map, refl, sym, ap, subst, ◌∙◌, codes}
-use Rattle.c_tree.specs.declared.stmt.LocalDef.{LocalDef}
-use Rattle.c_tree.specs.Plain.{PlainProgram, plain_program}
+use Rattle.form_tree.specs.declared.stmt.LocalDef.{LocalDef}
+use Rattle.form_tree.specs.Plain.{PlainProgram, plain_program}
 use Rattle.form_reader.specs.Lexemes.{Lexeme, Run, Mark}
 use Rattle.form_reader.specs.Grammar.{front_line, AreStmts, IsStmt}
 use Rattle.form_reader.specs.Form.{text_of, local_of, declaration, AreDeclarations, intro_texts, main_of, IsMain, HasForm}

@@ -3,9 +3,9 @@ use Rattle.std.proofs.Common.{◌≡◌, ℕ, ◌-◌, ◌<◌, ◌⊎◌, inl, 
 use Rattle.std.specs.Prelude.{Some, position}
 use Rattle.std.specs.Str.{bytes_eq}
 use Rattle.std.proofs.lemmas.List.{append_cancel_right}
-use Rattle.c_tree.specs.declared.expr.Expr.{Expr}
-use Rattle.c_tree.specs.declared.stmt.Stmt.{Stmt}
-use Rattle.c_tree.specs.declared.stmt.Stmt.TheVariants as stmt
+use Rattle.form_tree.specs.declared.expr.Expr.{Expr}
+use Rattle.form_tree.specs.declared.stmt.Stmt.{Stmt}
+use Rattle.form_tree.specs.declared.stmt.Stmt.TheVariants as stmt
 use Rattle.form_reader.specs.Lexemes.{Lexeme, Run, Mark}
 use Rattle.form_reader.specs.Grammar.{IsExpr, AreStmts, IsClosed, is_keyword, IsStmt}
 use Rattle.form_reader.specs.Reading.{EndsAnywhere, EndsBlock}

@@ -5,8 +5,8 @@ use Rattle.std.proofs.lemmas.Bool.{and_parts, eqb-true}
 use Rattle.filc_num.specs.declared.integer.BinOp.{BinOp}
 use Rattle.filc_num.specs.declared.integer.BinOp.TheVariants.{Mul, Add, Sub, Lt}
 use Rattle.filc_num.specs.declared.integer.IntType.TheVariants.{I32}
-use Rattle.c_tree.specs.declared.expr.Expr.{Expr}
-use Rattle.c_tree.specs.declared.expr.Link.{Link, out-Link, roll-Link, roll-out-Link}
+use Rattle.form_tree.specs.declared.expr.Expr.{Expr}
+use Rattle.form_tree.specs.declared.expr.Link.{Link, out-Link, roll-Link, roll-out-Link}
 use Rattle.form_reader.specs.Lexemes.{Lexeme, Mark}
 use Rattle.form_reader.specs.Grammar.{operator_of, ExprSpelling, AreLinks}
 use Rattle.form_reader.specs.Reading.{IsReadAs, HasNoOperator, EndsRank}

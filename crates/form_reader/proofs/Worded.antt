@@ -3,9 +3,9 @@ use Rattle.std.proofs.Common.{◌≡◌, ℕ, ◌-◌, ◌<◌, ◌⊎◌, inl, 
 use Rattle.std.specs.Prelude.{Some, None, Ok, Err, position}
 use Rattle.std.specs.Str.{bytes_eq}
 use Rattle.std.proofs.lemmas.Bool.{false≢true}
-use Rattle.c_tree.specs.declared.expr.Expr.{Expr}
-use Rattle.c_tree.specs.declared.stmt.Stmt.{Stmt}
-use Rattle.c_tree.specs.declared.stmt.Stmt.TheVariants as stmt
+use Rattle.form_tree.specs.declared.expr.Expr.{Expr}
+use Rattle.form_tree.specs.declared.stmt.Stmt.{Stmt}
+use Rattle.form_tree.specs.declared.stmt.Stmt.TheVariants as stmt
 use Rattle.form_reader.specs.declared.form.ReadFault.{ReadFault}
 use Rattle.form_reader.specs.declared.form.ReadFault.TheVariants.{NotForm}
 use Rattle.form_reader.specs.Lexemes.{Lexeme, Run, Mark}

@@ -3,12 +3,12 @@ use Rattle.std.specs.Prelude.{◌≡◌, ℕ, ◌≤◌, ◌<◌, Bool, true, fa
 use Rattle.std.specs.List.{list_all}
 use Rattle.std.specs.Str.{bytes_eq}
 use Rattle.filc_num.specs.declared.integer.IntType.TheVariants.{I32}
-use Rattle.c_tree.specs.declared.stmt.LocalDef.{LocalDef}
-use Rattle.c_tree.specs.declared.stmt.Stmt.{Stmt}
-use Rattle.c_tree.specs.declared.stmt.Stmt.TheVariants as stmt
-use Rattle.c_tree.specs.declared.program.FunctionDef.{FunctionDef}
-use Rattle.c_tree.specs.Plain.{PlainProgram, plain_program}
-use Rattle.c_tree.specs.Temps.{values_of}
+use Rattle.form_tree.specs.declared.stmt.LocalDef.{LocalDef}
+use Rattle.form_tree.specs.declared.stmt.Stmt.{Stmt}
+use Rattle.form_tree.specs.declared.stmt.Stmt.TheVariants as stmt
+use Rattle.form_tree.specs.declared.program.FunctionDef.{FunctionDef}
+use Rattle.form_tree.specs.Plain.{PlainProgram, plain_program}
+use Rattle.form_tree.specs.Temps.{values_of}
 use Rattle.form_reader.specs.Lexemes.{Lexeme, Run, Mark, Twin, is_letter, lexemes}
 use Rattle.form_reader.specs.Grammar.{front_line, AreStmts, IsStmt}
 

@@ -10,11 +10,11 @@ use Rattle.std.specs.Str.{bytes_eq}
 use Rattle.filc_num.specs.declared.integer.BinOp.{BinOp}
 use Rattle.filc_num.specs.declared.integer.BinOp.TheVariants.{Add, Sub, Mul, Lt}
 use Rattle.filc_num.specs.declared.integer.IntType.TheVariants.{I32}
-use Rattle.c_tree.specs.declared.expr.Expr.{Expr}
-use Rattle.c_tree.specs.declared.expr.Expr.TheVariants as expr
-use Rattle.c_tree.specs.declared.expr.Link.{Link, out-Link}
-use Rattle.c_tree.specs.declared.stmt.Stmt.{Stmt}
-use Rattle.c_tree.specs.declared.stmt.Stmt.TheVariants as stmt
+use Rattle.form_tree.specs.declared.expr.Expr.{Expr}
+use Rattle.form_tree.specs.declared.expr.Expr.TheVariants as expr
+use Rattle.form_tree.specs.declared.expr.Link.{Link, out-Link}
+use Rattle.form_tree.specs.declared.stmt.Stmt.{Stmt}
+use Rattle.form_tree.specs.declared.stmt.Stmt.TheVariants as stmt
 use Rattle.form_reader.specs.Lexemes.{Lexeme, Run, Mark, Twin, begins, is_letter}
 
 -- a production: what spells an expression

@@ -2,7 +2,7 @@
 
 ghost use Rattle.std.specs.Prelude.{◌≡◌, ◌≤◌, ◌<◌, ℕ, List, [], ◌∷◌, ◌++◌, length, map, IfSome, IfNone, IfOk, IfErr, IsTrue, ◌↔◌, true, false};
 ghost use Rattle.std.specs.List.{list_all};
-ghost use Rattle.c_tree.specs.declared.stmt.LocalDef.{LocalDef};
+ghost use Rattle.form_tree.specs.declared.stmt.LocalDef.{LocalDef};
 ghost use Rattle.form_reader.specs.declared.form.ReadFault.TheVariants.{NoMemory};
 ghost use Rattle.form_reader.specs.Lexemes.{Lexeme, is_letter};
 ghost use Rattle.form_reader.specs.Form.{IsName, IsNew, PlainDeclared, plain_declared, local_of, declaration, AreDeclarations};
@@ -11,8 +11,8 @@ ghost use Rattle.form_reader.specs.Reading.{EndsDeclarations, IsReadAs};
 use crate::expressions::place_of;
 use crate::form::{RESERVED, ReadFault, takes_mark};
 use crate::lexemes::{Token, Tokens, is_letter};
-use c_tree::LocalDef;
 use filc_num::IntType;
+use form_tree::LocalDef;
 use sqlite_items::Items;
 use std::alloc::Global;
 use std::marker::Model;

@@ -4,7 +4,7 @@ ghost use Rattle.std.specs.Prelude.{◌≡◌, ℕ, suc, ◌+◌, ◌<◌, ◌�
 ghost use Rattle.std.specs.List.{list_all};
 ghost use Rattle.std.specs.Borrow.{Bor};
 ghost use Rattle.std.specs.Str.{bytes_eq};
-ghost use Rattle.c_tree.specs.declared.expr.Expr.{Expr};
+ghost use Rattle.form_tree.specs.declared.expr.Expr.{Expr};
 ghost use Rattle.form_reader.specs.Lexemes.{Lexeme, Run, Mark, begins, is_letter};
 ghost use Rattle.form_reader.specs.Tokens.{lexeme_of};
 ghost use Rattle.form_reader.specs.Grammar.{operator_of, AreLinks, IsLeaf, IsOfRank, IsPrefix};
@@ -12,8 +12,8 @@ ghost use Rattle.form_reader.specs.Reading.{Reads, HasNoOperator, EndsRank};
 
 use crate::form::{ReadFault, number_of, takes_mark};
 use crate::lexemes::{Token, Tokens, begins_with_letter};
-use c_tree::{Expr, Link};
 use filc_num::{BinOp, IntType};
+use form_tree::{Expr, Link};
 use sqlite_items::{Boxed, Items};
 use std::alloc::Global;
 

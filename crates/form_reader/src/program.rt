@@ -1,10 +1,10 @@
 //! A whole file: the declaration of `putchar`, where there is one, and `main`.
 
 ghost use Rattle.std.specs.Prelude.{◌≡◌, ◌≤◌, ◌<◌, ℕ, [], ◌∷◌, List, length, IfOk, Err, IsTrue, true, false};
-ghost use Rattle.c_tree.specs.declared.stmt.Stmt.TheVariants.{Block};
-ghost use Rattle.c_tree.specs.Fits.{StmtFits};
-ghost use Rattle.c_tree.specs.Plain.{PlainProgram, plain_program};
-ghost use Rattle.c_tree.specs.Temps.{values_of};
+ghost use Rattle.form_tree.specs.declared.stmt.Stmt.TheVariants.{Block};
+ghost use Rattle.form_tree.specs.Fits.{StmtFits};
+ghost use Rattle.form_tree.specs.Plain.{PlainProgram, plain_program};
+ghost use Rattle.form_tree.specs.Temps.{values_of};
 ghost use Rattle.form_reader.specs.declared.form.ReadFault.TheVariants.{NotForm};
 ghost use Rattle.form_reader.specs.Lexemes.{Lexeme, Mark};
 ghost use Rattle.form_reader.specs.Form.{HasForm, IsMain, main_of};
@@ -16,7 +16,7 @@ use crate::form::{
 };
 use crate::lexemes::Tokens;
 use crate::statements::statements;
-use c_tree::{FunctionDef, Program, Stmt, statement_temps};
+use form_tree::{FunctionDef, Program, Stmt, statement_temps};
 use sqlite_items::Items;
 use std::alloc::Global;
 

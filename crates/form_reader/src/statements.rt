@@ -8,7 +8,7 @@ ghost use Rattle.form_reader.specs.Reading.{Reads, EndsRank, EndsAnywhere, EndsB
 use crate::expressions::{COMPARISON, expression, place_of};
 use crate::form::{ReadFault, takes_mark};
 use crate::lexemes::{Token, Tokens};
-use c_tree::{Expr, Stmt};
+use form_tree::{Expr, Stmt};
 use sqlite_items::{Boxed, Items};
 use std::alloc::Global;
 

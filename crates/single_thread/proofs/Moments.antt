@@ -1,7 +1,7 @@
 -- The moments of the one thread: all entries of its history after its beginning are its own, and none begins another.
 use Rattle.std.proofs.Common.{◌≡◌, ℕ, List, [], ◌∷◌, length, cond, Bool, false, Some, None, refl, ◌∙◌, ap, eq-eqb}
 use Rattle.std.specs.Prelude.{◌==◌, filter, nat_lt, if◌then◌else◌}
-use Rattle.c_tree.specs.Plain.{PlainProgram}
+use Rattle.form_tree.specs.Plain.{PlainProgram}
 use Rattle.ideal_machine.specs.declared.event.Event.{Event}
 use Rattle.ideal_machine.specs.declared.event.Event.TheVariants.{Out, Begin, Exit, Trap}
 use Rattle.ideal_machine.specs.Memory.{Memory, World}

@@ -1,6 +1,6 @@
 -- What holds of every run of one thread.
 use Rattle.std.specs.Prelude.{◌≡◌, ℕ, ◌+◌, ◌++◌, IsSome, Some, None}
-use Rattle.c_tree.specs.Plain.{PlainProgram}
+use Rattle.form_tree.specs.Plain.{PlainProgram}
 use Rattle.filc_code.specs.Plain.{PlainCode}
 use Rattle.filc_code.specs.WellFormed.{IsWellFormed}
 use Rattle.ideal_machine.specs.Memory.{World}

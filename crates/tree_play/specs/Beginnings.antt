@@ -1,6 +1,6 @@
 -- Each beginning of a legal history is legal. So a statement that a run is legal has to say which history is the run's.
 use Rattle.std.specs.Prelude.{ℕ, ◌++◌}
-use Rattle.c_tree.specs.Plain.{PlainProgram}
+use Rattle.form_tree.specs.Plain.{PlainProgram}
 use Rattle.ideal_machine.specs.Memory.{World}
 use Rattle.tree_play.specs.Legal.{History, IsLegalHistory}
 

@@ -1,6 +1,6 @@
 -- A thread makes nothing after it ended itself or the program.
 use Rattle.std.specs.Prelude.{◌≡◌, ℕ, List, [], ◌∷◌, Bool, true, false}
-use Rattle.c_tree.specs.Plain.{PlainProgram}
+use Rattle.form_tree.specs.Plain.{PlainProgram}
 use Rattle.ideal_machine.specs.declared.event.Event.{Event}
 use Rattle.ideal_machine.specs.declared.event.Event.TheVariants.{End, Exit, Trap}
 use Rattle.ideal_machine.specs.declared.event.Answer.{Answer}

@@ -4,7 +4,7 @@
 -- them. It is legal where each entry is allowed in the memory that those before it left, and each thread plays
 -- its C text on the answers that it got.
 use Rattle.std.specs.Prelude.{ℕ, ◌==◌, List, [], ◌∷◌, Bool, true, false, map, filter, if◌then◌else◌}
-use Rattle.c_tree.specs.Plain.{PlainProgram}
+use Rattle.form_tree.specs.Plain.{PlainProgram}
 use Rattle.ideal_machine.specs.declared.value.Half.{Half}
 use Rattle.ideal_machine.specs.declared.event.Event.{Event}
 use Rattle.ideal_machine.specs.declared.event.Event.TheVariants.{Begin}

@@ -1,6 +1,6 @@
 -- A history stays legal with a greater bound: a smaller bound says more.
 use Rattle.std.specs.Prelude.{ℕ, ◌≤◌}
-use Rattle.c_tree.specs.Plain.{PlainProgram}
+use Rattle.form_tree.specs.Plain.{PlainProgram}
 use Rattle.ideal_machine.specs.Memory.{World}
 use Rattle.tree_play.specs.Legal.{History, IsLegalHistory}
 

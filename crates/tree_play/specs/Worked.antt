@@ -1,9 +1,9 @@
 -- Worked examples of legal histories, of the program `int main(void){return 3;}`.
 use Rattle.std.specs.Prelude.{◌≡◌, ℕ, [], ◌∷◌}
 use Rattle.filc_num.specs.declared.integer.IntType.TheVariants.{I32}
-use Rattle.c_tree.specs.declared.expr.Expr.TheVariants as expr
-use Rattle.c_tree.specs.declared.stmt.Stmt.TheVariants as stmt
-use Rattle.c_tree.specs.Plain.{PlainProgram, plain_program}
+use Rattle.form_tree.specs.declared.expr.Expr.TheVariants as expr
+use Rattle.form_tree.specs.declared.stmt.Stmt.TheVariants as stmt
+use Rattle.form_tree.specs.Plain.{PlainProgram, plain_program}
 use Rattle.ideal_machine.specs.declared.value.Half.TheVariants.{Nothing}
 use Rattle.ideal_machine.specs.declared.event.Event.{Event}
 use Rattle.ideal_machine.specs.declared.event.Event.TheVariants.{Out, Begin, Exit}

@@ -2,8 +2,8 @@
 use Rattle.std.proofs.Common.{◌≡◌, ◌≤◌, ℕ, List, length, take, sym, ap, ◌∙◌, subst}
 use Rattle.std.proofs.lemmas.List.{take_all}
 use Rattle.std.specs.Prelude.{map}
-use Rattle.c_tree.specs.declared.program.FunctionDef.{FunctionDef}
-use Rattle.c_tree.specs.Plain.{PlainProgram}
+use Rattle.form_tree.specs.declared.program.FunctionDef.{FunctionDef}
+use Rattle.form_tree.specs.Plain.{PlainProgram}
 use Rattle.filc_code.specs.declared.code.CodeFunction.{CodeFunction}
 use Rattle.filc_code.specs.Plain.{plain_function, plain_code, PlainCode}
 use Rattle.filc_code.specs.WellFormed.{IsWellFormed}

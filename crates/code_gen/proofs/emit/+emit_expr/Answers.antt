@@ -1,9 +1,9 @@
 -- The parts of a tree are what its code is made of.
 use Rattle.std.proofs.Common.{rules, ℕ, ◌+◌, [], ◌∷◌, ◌++◌, sym, ap, ◌∙◌, arith, append_assoc}
-use Rattle.c_tree.specs.declared.expr.Expr.TheViews.{the_lemmas}
-use Rattle.c_tree.specs.Temps.{temps_of}
-use Rattle.c_tree.specs.Lists.{list_temps}
-use Rattle.c_tree.proofs.Views.{negate_temps, chain_temps}
+use Rattle.form_tree.specs.declared.expr.Expr.TheViews.{the_lemmas}
+use Rattle.form_tree.specs.Temps.{temps_of}
+use Rattle.form_tree.specs.Lists.{list_temps}
+use Rattle.form_tree.proofs.Views.{negate_temps, chain_temps}
 use Rattle.filc_num.specs.declared.integer.BinOp.TheVariants.{Sub}
 use Rattle.filc_code.specs.declared.op.Op.TheVariants.{Const, Binary}
 use Rattle.filc_code.specs.Numbers.{operator_number}

@@ -1,7 +1,7 @@
 -- A chain is emitted link by link.
 use Rattle.std.proofs.Common.{◌≡◌, ◌<◌, ◌+◌, ◌++◌, drop}
 use Rattle.filc_num.specs.declared.registers.TheConstants.{REGISTERS}
-use Rattle.c_tree.specs.Lists.{list_temps}
+use Rattle.form_tree.specs.Lists.{list_temps}
 use Rattle.code_gen.specs.Code.{expr_code}
 use Rattle.code_gen.specs.Lists.{list_code}
 use Rattle.code_gen.proofs.emit.+emit_expr.Given as goal

@@ -1,10 +1,10 @@
 -- The parts of a statement are what its code is made of.
 use Rattle.std.proofs.Common.{rules, ◌≡◌, ◌+◌, ◌++◌, length, sym, ap, ◌∙◌, arith, length-append}
 use Rattle.std.specs.Prelude.{slice_set}
-use Rattle.c_tree.specs.declared.stmt.Stmt.TheViews.{the_lemmas}
-use Rattle.c_tree.specs.Temps.{stmt_temps}
-use Rattle.c_tree.specs.Lists.{stmt_list_temps}
-use Rattle.c_tree.proofs.Views.{while_temps, block_temps}
+use Rattle.form_tree.specs.declared.stmt.Stmt.TheViews.{the_lemmas}
+use Rattle.form_tree.specs.Temps.{stmt_temps}
+use Rattle.form_tree.specs.Lists.{stmt_list_temps}
+use Rattle.form_tree.proofs.Views.{while_temps, block_temps}
 use Rattle.code_gen.specs.Code.{expr_code, zeros_code, while_code, stmt_code}
 use Rattle.code_gen.proofs.Views.{loop_code}
 use Rattle.code_gen.proofs.Patch.{patch_while, block_starts}

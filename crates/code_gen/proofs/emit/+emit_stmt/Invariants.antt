@@ -1,7 +1,7 @@
 -- A block is emitted statement by statement.
 use Rattle.std.proofs.Common.{◌≡◌, ◌<◌, ◌+◌, ◌++◌, drop, length}
 use Rattle.filc_num.specs.declared.registers.TheConstants.{REGISTERS}
-use Rattle.c_tree.specs.Lists.{stmt_list_temps}
+use Rattle.form_tree.specs.Lists.{stmt_list_temps}
 use Rattle.code_gen.specs.Code.{stmt_code}
 use Rattle.code_gen.specs.Lists.{stmt_list_code}
 use Rattle.code_gen.proofs.emit.+emit_stmt.Given as goal

@@ -3,8 +3,8 @@ use Rattle.std.specs.Prelude.{Ok, Err, Some}
 use Rattle.std.proofs.lemmas.Result.{err_from_is_err_and}
 use Rattle.std.proofs.lemmas.Bool.{both_ways}
 use Rattle.filc_num.specs.declared.integer.IntType.TheVariants.{I32}
-use Rattle.c_tree.specs.declared.expr.Expr.{Expr}
-use Rattle.c_tree.specs.declared.expr.Link.{Link, Link-F, roll-Link, out-roll-Link}
+use Rattle.form_tree.specs.declared.expr.Expr.{Expr}
+use Rattle.form_tree.specs.declared.expr.Link.{Link, Link-F, roll-Link, out-roll-Link}
 use Rattle.form_reader.specs.Tokens.{lexeme_of}
 use Rattle.form_reader.specs.declared.lexemes.Token.{Token}
 use Rattle.form_reader.specs.Grammar.{IsOfRank, IsPrefix, operator_of}

@@ -1,7 +1,7 @@
 use Rattle.std.proofs.Common.{◌≡◌, ℕ, ◌<◌, ◌^◌, List, ◌∷◌, [], map, sym, ap, ◌∙◌, false, arith}
 use Rattle.std.proofs.lemmas.Fmt.{decimal_injective}
 use Rattle.filc_num.specs.declared.integer.IntType.TheVariants.{I32}
-use Rattle.c_tree.specs.declared.expr.Expr.TheVariants as expr
+use Rattle.form_tree.specs.declared.expr.Expr.TheVariants as expr
 use Rattle.form_reader.specs.Lexemes.{Run, begins, is_letter}
 use Rattle.form_reader.specs.Grammar.{number}
 use Rattle.form_reader.proofs.Leaves.{number_only}

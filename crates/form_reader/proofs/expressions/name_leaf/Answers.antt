@@ -2,7 +2,7 @@ use Rattle.std.proofs.Common.{◌≡◌, ℕ, map, sym, ap, ◌∙◌, refl}
 use Rattle.std.specs.Prelude.{Some, None, position}
 use Rattle.std.specs.Str.{bytes_eq}
 use Rattle.filc_num.specs.declared.integer.IntType.TheVariants.{I32}
-use Rattle.c_tree.specs.declared.expr.Expr.TheVariants as expr
+use Rattle.form_tree.specs.declared.expr.Expr.TheVariants as expr
 use Rattle.form_reader.specs.Grammar.{local}
 use Rattle.form_reader.proofs.Leaves.{name_only}
 use Rattle.form_reader.proofs.expressions.name_leaf.Goals as goal

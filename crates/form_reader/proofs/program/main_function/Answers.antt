@@ -1,8 +1,8 @@
 use Rattle.std.proofs.Common.{◌≡◌, ◌≤◌, ◌-◌, ℕ, List, [], ◌∷◌, ◌++◌, length, sym, subst, ◌∙◌}
 use Rattle.std.specs.Prelude.{Ok, Err}
 use Rattle.std.proofs.lemmas.Result.{err_from_is_err_and}
-use Rattle.c_tree.specs.Plain.{plain_program}
-use Rattle.c_tree.specs.Temps.{values_of}
+use Rattle.form_tree.specs.Plain.{plain_program}
+use Rattle.form_tree.specs.Temps.{values_of}
 use Rattle.form_reader.specs.declared.form.TheConstants.{MOST_NESTING, MOST_VALUES}
 use Rattle.form_reader.specs.Lexemes.{Mark}
 use Rattle.form_reader.specs.Grammar.{AreStmts, IsStmt}

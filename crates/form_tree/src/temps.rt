@@ -1,8 +1,8 @@
 //! Counting a function's values.
 
 ghost use Rattle.std.specs.Prelude.{◌≡◌, ◌≤◌, min};
-ghost use Rattle.c_tree.specs.Fits.{FunctionFits};
-ghost use Rattle.c_tree.specs.Temps.{temps_of, stmt_temps, values_of};
+ghost use Rattle.form_tree.specs.Fits.{FunctionFits};
+ghost use Rattle.form_tree.specs.Temps.{temps_of, stmt_temps, values_of};
 
 use crate::expr::Expr;
 use crate::program::FunctionDef;

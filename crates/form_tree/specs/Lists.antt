@@ -1,8 +1,8 @@
 -- The same over the lists that a tree keeps, as a walk of them meets the elements.
 use Rattle.std.specs.Prelude.{ℕ, ◌+◌, List, [], ◌∷◌, max}
-use Rattle.c_tree.specs.declared.expr.Link.{Link}
-use Rattle.c_tree.specs.declared.stmt.Stmt.{Stmt}
-use Rattle.c_tree.specs.Temps.{temps_of, stmt_temps}
+use Rattle.form_tree.specs.declared.expr.Link.{Link}
+use Rattle.form_tree.specs.declared.stmt.Stmt.{Stmt}
+use Rattle.form_tree.specs.Temps.{temps_of, stmt_temps}
 
 -- the greatest need of the operands of these links
 abbrev pub list_temps : List Link → ℕ

@@ -1,11 +1,11 @@
 -- A block's temporaries are those of its statements, and nothing is left after the last.
 use Rattle.std.proofs.Common.{◌≤◌, min, length, refl, sym, ap, ◌∙◌, arith}
 use Rattle.std.proofs.Math.ListN.{drop_of_length-le}
-use Rattle.c_tree.specs.Temps.{stmt_temps}
-use Rattle.c_tree.specs.Lists.{stmt_list_temps}
-use Rattle.c_tree.proofs.Counting.{count_starts, count_ends, count_both}
-use Rattle.c_tree.proofs.Views.{while_temps, block_temps}
-use Rattle.c_tree.proofs.temps.+statement_temps.Goals as goal
+use Rattle.form_tree.specs.Temps.{stmt_temps}
+use Rattle.form_tree.specs.Lists.{stmt_list_temps}
+use Rattle.form_tree.proofs.Counting.{count_starts, count_ends, count_both}
+use Rattle.form_tree.proofs.Views.{while_temps, block_temps}
+use Rattle.form_tree.proofs.temps.+statement_temps.Goals as goal
 
 pub loop-stmt-init : goal.loop-stmt-init
 loop-stmt-init t c =

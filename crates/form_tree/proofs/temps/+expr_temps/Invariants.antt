@@ -1,7 +1,7 @@
 use Rattle.std.proofs.Common.{◌≡◌, ◌≤◌, min, max, drop}
-use Rattle.c_tree.specs.Temps.{temps_of}
-use Rattle.c_tree.specs.Lists.{list_temps}
-use Rattle.c_tree.proofs.temps.+expr_temps.Given as goal
+use Rattle.form_tree.specs.Temps.{temps_of}
+use Rattle.form_tree.specs.Lists.{list_temps}
+use Rattle.form_tree.proofs.temps.+expr_temps.Given as goal
 
 -- what is counted, with what is left to count, is the whole chain's
 abbrev pub invariant-loop-link : goal.invariant-loop-link

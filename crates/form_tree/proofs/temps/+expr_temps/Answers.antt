@@ -1,11 +1,11 @@
 -- A chain's temporaries are its first operand's and those of its links, and nothing is left after the last.
 use Rattle.std.proofs.Common.{◌≤◌, min, max, length, sym, ap, ◌∙◌, arith}
 use Rattle.std.proofs.Math.ListN.{drop_of_length-le}
-use Rattle.c_tree.specs.Temps.{temps_of}
-use Rattle.c_tree.specs.Lists.{list_temps}
-use Rattle.c_tree.proofs.Counting.{count_starts, count_ends}
-use Rattle.c_tree.proofs.Views.{negate_temps, chain_temps}
-use Rattle.c_tree.proofs.temps.+expr_temps.Goals as goal
+use Rattle.form_tree.specs.Temps.{temps_of}
+use Rattle.form_tree.specs.Lists.{list_temps}
+use Rattle.form_tree.proofs.Counting.{count_starts, count_ends}
+use Rattle.form_tree.proofs.Views.{negate_temps, chain_temps}
+use Rattle.form_tree.proofs.temps.+expr_temps.Goals as goal
 
 pub loop-link-init : goal.loop-link-init
 loop-link-init t c =

@@ -4,10 +4,10 @@ use Rattle.filc_num.specs.declared.integer.IntType.{IntType}
 use Rattle.filc_num.specs.declared.integer.BinOp.{BinOp}
 use Rattle.filc_num.specs.declared.integer.BinOp.TheVariants.{Add, Sub, Mul, Div, Rem, And, Or, Xor, Shl, Shr, Lt, Le, Gt, Ge, Eq, Ne}
 use Rattle.filc_num.specs.Integers.{is_promoted}
-use Rattle.typed_tree.specs.declared.operation.Operation.{Operation}
-use Rattle.typed_tree.specs.declared.operation.Operation.TheVariants as op
-use Rattle.typed_tree.specs.declared.operation.Change.{Change}
-use Rattle.typed_tree.specs.declared.operation.Change.TheVariants as change
+use Rattle.c_tree.specs.declared.operation.Operation.{Operation}
+use Rattle.c_tree.specs.declared.operation.Operation.TheVariants as op
+use Rattle.c_tree.specs.declared.operation.Change.{Change}
+use Rattle.c_tree.specs.declared.operation.Change.TheVariants as change
 
 -- what a function is to those that call it: the number of its type, and how many parameters it has
 pub record Callee : Type 0 where

@@ -1,7 +1,7 @@
 use Rattle.std.proofs.Common.{◌≡◌, ◌≤◌, min, max, drop}
-use Rattle.c_tree.specs.Temps.{stmt_temps}
-use Rattle.c_tree.specs.Lists.{stmt_list_temps}
-use Rattle.c_tree.proofs.temps.+statement_temps.Given as goal
+use Rattle.form_tree.specs.Temps.{stmt_temps}
+use Rattle.form_tree.specs.Lists.{stmt_list_temps}
+use Rattle.form_tree.proofs.temps.+statement_temps.Given as goal
 
 -- what is counted, with what is left to count, is the whole block's
 abbrev pub invariant-loop-stmt : goal.invariant-loop-stmt
