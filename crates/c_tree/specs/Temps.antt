@@ -2,7 +2,7 @@
 --
 -- An operand waits in a register of its own while the operands to its right are computed. So operand number
 -- i, counted from 0, needs i registers more than it needs itself.
-use Rattle.std.specs.Prelude.{ℕ, suc, ◌+◌, max, Option, Some, None}
+use Rattle.std.specs.Prelude.{ℕ, suc, ◌+◌, ◌-◌, max, Option, Some, None}
 use Rattle.c_tree.specs.declared.expr.Expr.{Expr, Apply', Chain', Logic', Choose', Print', Row_of-Expr, end_of-Expr, more_of-Expr, Row_of-Link, end_of-Link, more_of-Link}
 use Rattle.c_tree.specs.declared.stmt.Stmt.{Stmt, Run, Block', If', Loop', BreakUnless, Break, Continue, Switch', Return, Row_of-Stmt, end_of-Stmt, more_of-Stmt}
 use Rattle.c_tree.specs.declared.program.FunctionDef.{FunctionDef}
@@ -53,6 +53,7 @@ abbrev mutual
   stmts_temps end_of-Stmt = 0
   stmts_temps (more_of-Stmt s rest) = max (stmt_temps s) (stmts_temps rest)
 
--- what a function's locals and body need
+-- what a function's locals and body need. Two of the spare registers are for operands that C's text doesn't have: the 1
+-- of `++` and `--` in memory, and the address of what an initialiser fills
 abbrev pub needed_by : FunctionDef → ℕ
-needed_by f = f.locals + stmt_temps f.body + SPARE_REGISTERS
+needed_by f = f.locals + stmt_temps f.body + (SPARE_REGISTERS - 2)

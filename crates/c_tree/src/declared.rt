@@ -11,7 +11,7 @@ pub enum Linkage {
     External,
     /// That of what stood before, or external where nothing stood: it is that of `extern`, and of a function
     /// without a storage word.
-    Inherited,
+    Prior,
 }
 
 /// The number of a static object, or of a local of the function.

@@ -36,7 +36,8 @@ pub enum Expr {
         then: Boxed<Expr>,
         otherwise: Boxed<Expr>,
     },
-    /// `printf`: the operands, and then the pieces between the lock of the output and its release.
+    /// `printf`: the operands, of which the first is the pointer to the lock of the output, and then the pieces
+    /// between that lock and its release.
     Print {
         line: u32,
         operands: Items<Expr>,

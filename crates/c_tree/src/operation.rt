@@ -50,7 +50,8 @@ pub enum Operation {
     Complement(IntType),
     Not(IntType),
 
-    /// A pointer to elements of so many bytes, and an integer.
+    /// A pointer to elements of so many bytes, and an integer. With no bytes it gives its first operand's value:
+    /// so the value of an atomic call waits while further operands are evaluated and dropped.
     Advance(u64),
     Retreat(u64),
     /// An integer, and a pointer to elements of so many bytes.
@@ -120,7 +121,7 @@ pub enum Piece {
     Byte(u8),
     /// The low byte of this operand.
     Out(u32),
-    /// A library function puts out this operand, as a text or in a radix.
+    /// A library function puts out this operand: as a text, as a signed number, or in a radix.
     Put {
         function: u32,
         operand: u32,

@@ -13,9 +13,9 @@ use std::marker::Model;
 pub struct FunctionDef {
     /// The line of its first token.
     pub line: u32,
-    /// Whether its text is a library header's.
+    /// Whether its body's text is a library header's.
     pub library: bool,
-    /// The number of its type among those of functions.
+    /// The number of its type among those of functions: 0 is `int(void*)`, what a thread is begun with.
     pub kind: u32,
     /// Its first locals are its parameters.
     pub parameters: u32,

@@ -2,7 +2,7 @@
 //!
 //! `while (e) s` is a Loop of a Block of BreakUnless and s; `for` has its step as `next`, where `continue` goes
 //! on. `switch (e) {..}` is a Run that sets a local to e's value, and a Block with the switch's locals and the
-//! Switch on that local.
+//! Switch on that local. That local is named in no block, and has no home.
 
 use crate::expr::Expr;
 use crate::operation::Access;
