@@ -1,5 +1,6 @@
 pub mod Integers
 pub mod CIntTypes
+pub mod WordBytes
 pub mod Reasons
 pub mod Refusals
 pub mod Gives

@@ -1,6 +1,10 @@
 pub mod Memory
-pub mod Allows
+pub mod Beginning
+pub mod Words
+pub mod Refusals
 pub mod Names
+pub mod Allows
+pub mod Effects
 pub mod Values
 pub mod Queries
 pub mod Play

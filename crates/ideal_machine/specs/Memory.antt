@@ -3,21 +3,20 @@
 -- Objects are numbered in the order in which they were made, and none is ever taken away: `free` sets
 -- `freed`. The two halves of a pointer at rest are apart: a word has an integer and a half, and a store of
 -- one leaves the other. A pair is both at once, for atomic pointers; pairs are numbered in the order in
--- which they were stored. Each thread has a slot.
-use Rattle.std.specs.Prelude.{ℕ, ◌+◌, ◌*◌, ◌-◌, List, [], ◌∷◌, Bool, Option, Some, None, replicate, slice_get}
+-- which they were stored, and a word has the number. Each thread has a slot.
+use Rattle.std.specs.Prelude.{ℕ, ◌+◌, ◌*◌, List, [], Bool, false, true, Option, Some, None, slice_get, unwrap_or}
 use Rattle.ideal_machine.specs.declared.value.Half.{Half}
 use Rattle.ideal_machine.specs.declared.value.Half.TheVariants.{Nothing}
+use Rattle.ideal_machine.specs.declared.value.Found.{Found}
+use Rattle.ideal_machine.specs.declared.value.Found.TheVariants.{Plain}
 use Rattle.ideal_machine.specs.declared.finish.Finish.{Finish}
 
--- what a word keeps beside its integer: a half, or a pair by its number, with its address and its half
-pub data Stored : Type 0 where
-  Plain : (half : Half) → Stored
-  Paired : (number address : ℕ) (half : Half) → Stored
+-- ---- objects
 
--- 8 bytes of an object
+-- 8 bytes of an object: their integer, and the half that is found there, or a pair by its number
 pub record Word : Type 0 where
   pub integer : ℕ
-  pub half : Stored
+  pub half : Found
 
 -- an object; it is covered once a later one lies on its bytes
 pub record Object : Type 0 where
@@ -28,10 +27,25 @@ pub record Object : Type 0 where
   pub covered : Bool
   pub words : List Word
 
+-- the kinds of objects: made by `malloc`, `calloc` or `realloc`; the home of a local; a static object; a string literal
+abbrev pub malloc_kind : ℕ
+malloc_kind = 0
+
+abbrev pub home_kind : ℕ
+home_kind = 1
+
+abbrev pub static_kind : ℕ
+static_kind = 2
+
+abbrev pub literal_kind : ℕ
+literal_kind = 3
+
 -- an address and a half that were stored at once
 pub record Pair : Type 0 where
   pub address : ℕ
   pub half : Half
+
+-- ---- threads
 
 -- where the thread of a slot is
 pub data SlotState : Type 0 where
@@ -45,7 +59,8 @@ pub record Slot : Type 0 where
   pub generation : ℕ
   pub state : SlotState
 
--- the memory
+-- ---- the memory
+
 pub record Memory : Type 0 where
   pub objects : List Object
   pub pairs : List Pair
@@ -65,33 +80,27 @@ pub record World : Type 0 where
 abbrev pub default_world : List ℕ → World
 default_world input = record { slots = 8; output = 1048576; input = input }
 
--- a slot that no thread has had
-abbrev pub fresh_slot : Slot
-fresh_slot = record { generation = 0; state = Free }
+-- ---- what a number names
 
--- the slot in which a run begins: its thread is started with the function of this number
-abbrev pub main_slot : ℕ → Slot
-main_slot main = record { generation = 0; state = Started main 0 Nothing }
+-- what isn't there: it has no bytes
+abbrev pub no_object : Object
+no_object = record { address = 0; bytes = 0; kind = malloc_kind; freed = true; covered = false; words = [] }
 
--- the memory before the first event, of a program without static objects (there are none yet)
-abbrev pub first_memory : World → ℕ → Memory
-first_memory world main = record {
-  objects = [];
-  pairs = [];
-  output = [];
-  input_taken = 0;
-  cycles = 0;
-  slots = main_slot main ∷ replicate (world.slots - 1) fresh_slot;
-  finish = None;
-}
+-- a word of zeros
+abbrev pub zero_word : Word
+zero_word = record { integer = 0; half = Plain Nothing }
+
+-- the object of this number
+abbrev pub object_at : Memory → ℕ → Object
+object_at memory object = unwrap_or (slice_get memory.objects object) no_object
+
+-- a word of an object
+abbrev pub word_at : Memory → (object word : ℕ) → Word
+word_at memory object word = unwrap_or (slice_get (object_at memory object).words word) zero_word
 
 -- the address of an object; it never moves
-abbrev pub address_or : Option Object → ℕ
-address_or None = 0
-address_or (Some object) = object.address
-
 abbrev pub address_in : Memory → ℕ → ℕ
-address_in memory object = address_or (slice_get memory.objects object)
+address_in memory object = (object_at memory object).address
 
 -- the id of a slot's thread: no other slot has it, and no thread that the slot had before or will have
 abbrev pub id_of : (slot generation : ℕ) → ℕ

@@ -1,7 +1,7 @@
 -- Which objects an event names: the address rule, and how the half of a freed object may be shown.
-use Rattle.std.specs.Prelude.{◌≡◌, ℕ, List, [], ◌∷◌, ◌++◌, All, IfSome, false, slice_get}
+use Rattle.std.specs.Prelude.{◌≡◌, ◌⊎◌, ℕ, ◌+◌, ◌<◌, List, [], ◌∷◌, ◌++◌, length, map, All, IsSomeAnd, IfSome, Bool, true, false, not, ◌&&◌, ◌||◌, ◌==◌, nat_lt, if◌then◌else◌, slice_get}
 use Rattle.ideal_machine.specs.declared.value.Half.{Half}
-use Rattle.ideal_machine.specs.declared.value.Half.TheVariants.{Object as ObjectHalf}
+use Rattle.ideal_machine.specs.declared.value.Half.TheVariants.{Freed, Object as ObjectHalf}
 use Rattle.ideal_machine.specs.declared.value.Kept.{Kept}
 use Rattle.ideal_machine.specs.declared.value.Kept.TheVariants.{Plain as KeptPlain, Pair as KeptPair}
 use Rattle.ideal_machine.specs.declared.value.Found.{Found}
@@ -12,10 +12,9 @@ use Rattle.ideal_machine.specs.declared.event.Event.{Event}
 use Rattle.ideal_machine.specs.declared.event.Event.TheVariants.{Check, GetInt, SetInt, RmwInt, CasInt, GetHalf, SetHalf, CasHalf, Void, Size, Name, Lock, Spawn, Begin}
 use Rattle.ideal_machine.specs.declared.event.Answer.{Answer}
 use Rattle.ideal_machine.specs.declared.event.Answer.TheVariants.{Found as FoundAnswer, Opened, Made}
-use Rattle.ideal_machine.specs.Memory.{Memory}
-use Rattle.ideal_machine.specs.Allows.{IsShown}
+use Rattle.ideal_machine.specs.Memory.{Object, Memory}
 
--- ---- the address rule
+-- ---- names
 
 -- the objects that a half names
 abbrev pub half_names : Half → List ℕ
@@ -59,12 +58,48 @@ answer_names (Opened address half) = half_names half
 answer_names (Made object address) = object ∷ []
 answer_names answer = []
 
+-- what an event names is there
+abbrev pub NamesObjects : Memory → Event → Type 0
+NamesObjects memory event = All (λ n. n < length memory.objects) (event_names event)
+
+-- ---- the address rule
+
+-- how many bytes an object takes up: one that has none takes up one
+abbrev pub extent_of : Object → ℕ
+extent_of object = if object.bytes == 0 then 1 else object.bytes
+
+-- two objects share a byte
+abbrev pub overlaps : Object → Object → Bool
+overlaps a b = nat_lt a.address (b.address + extent_of b) && nat_lt b.address (a.address + extent_of a)
+
+-- an object that isn't freed is covered by a new one that lies on its bytes
+abbrev pub object_under : Object → Object → Object
+object_under new old = record old { covered = old.covered || (not old.freed && overlaps old new) }
+
+-- the memory with a new object: it is the next one, and covers those that it lies on
+abbrev pub with_new_object : Memory → Object → Memory
+with_new_object memory new = record memory { objects = map (object_under new) memory.objects ++ new ∷ [] }
+
 -- no thread sees two objects at one address: what an event or its answer names isn't covered
 abbrev pub KeepsApart : Memory → Event → Answer → Type 0
 KeepsApart memory event answer =
     All (λ n. IfSome (slice_get memory.objects n) (λ o. o.covered ≡ false)) (event_names event ++ answer_names answer)
 
 -- ---- halves of freed objects
+
+-- the half names an object that was freed
+abbrev pub NamesFreed : Memory → Half → Type 0
+NamesFreed memory (ObjectHalf n) = IsSomeAnd (slice_get memory.objects n) (λ o. o.freed ≡ true)
+NamesFreed memory half = ⊥
+
+-- how a half may be shown: as it is, or as Freed where its object was freed
+abbrev pub IsShown : Memory → Half → Half → Type 0
+IsShown memory half shown = (shown ≡ half) ⊎ ((shown ≡ Freed) × NamesFreed memory half)
+
+-- how what a word has may be shown; of a pair its number
+abbrev pub IsFoundAs : Memory → Found → Found → Type 0
+IsFoundAs memory (FoundPlain half) (FoundPlain shown) = IsShown memory half shown
+IsFoundAs memory stored shown = shown ≡ stored
 
 abbrev pub kept_as : (Half → Half) → Kept → Kept
 kept_as show (KeptPlain half) = KeptPlain (show half)

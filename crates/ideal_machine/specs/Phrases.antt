@@ -3,10 +3,8 @@
 -- A phrase has no state, and says nothing of what goes on after it: both sides bind that to it. So each event is written
 -- once, and a law of all phrases serves every one.
 use Rattle.std.specs.Prelude.{ℕ, zero, suc, ◌%◌, true, false, Bool, Option, Some, None, Result, Ok, Err}
-use Rattle.filc_num.specs.Integers.{convert_of, binary_of}
 use Rattle.filc_num.specs.declared.integer.IntType.{IntType}
 use Rattle.filc_num.specs.declared.integer.BinOp.{BinOp}
-use Rattle.filc_num.specs.declared.integer.BinOp.TheVariants.{Shl, Shr}
 use Rattle.filc_num.specs.declared.integer.ArithFault.{ArithFault}
 use Rattle.filc_num.specs.declared.integer.ArithFault.TheVariants.{Divide as ArithDivide, Shift as ArithShift}
 use Rattle.filc_num.specs.declared.reason.Reason.{Reason}
@@ -14,6 +12,7 @@ use Rattle.filc_num.specs.declared.reason.Reason.TheVariants.{Divide, Shift}
 use Rattle.ideal_machine.specs.declared.value.Value.{Value}
 use Rattle.ideal_machine.specs.declared.finish.Finish.TheVariants.{Exited, Trapped}
 use Rattle.ideal_machine.specs.declared.event.Event.TheVariants.{Out, End, Exit, Trap}
+pub use Rattle.ideal_machine.specs.Words.{operator_result}
 use Rattle.ideal_machine.specs.Values.{integer}
 use Rattle.ideal_machine.specs.Queries.{Makes}
 use Rattle.ideal_machine.specs.Play.{Play, Gives, Stops, Asks, Finished}
@@ -61,12 +60,6 @@ put_out value line = Asks (Makes (Out (value.number % 256))) (unless_refused lin
 
 -- ---- arithmetic
 
--- the right operand as an operator takes it: converted to the operation's type, but for the count of a shift
-abbrev pub right_operand : BinOp → IntType → ℕ → ℕ
-right_operand Shl ty b = b
-right_operand Shr ty b = b
-right_operand op ty b = convert_of b ty
-
 -- why arithmetic without a result traps
 abbrev pub reason_of : ArithFault → Reason
 reason_of ArithDivide = Divide
@@ -77,10 +70,7 @@ abbrev pub arithmetic_result : Result ℕ ArithFault → ℕ → Phrase Value
 arithmetic_result (Ok n) line = Gives tt (integer n)
 arithmetic_result (Err fault) line = trap (reason_of fault) line
 
--- a op b, made in a type to which both operands are converted (C11 6.3.1.8)
-abbrev pub operator_result : BinOp → IntType → ℕ → ℕ → Result ℕ ArithFault
-operator_result op ty a b = binary_of op ty (convert_of a ty) (right_operand op ty b)
-
+-- a op b, made in this type
 abbrev pub arithmetic : BinOp → IntType → Value → Value → ℕ → Phrase Value
 arithmetic op ty a b line = arithmetic_result (operator_result op ty a.number b.number) line
 

@@ -6,8 +6,10 @@ use Rattle.ideal_machine.specs.declared.value.Half.TheVariants.{Nothing, Freed, 
 use Rattle.ideal_machine.specs.declared.finish.Finish.TheVariants.{Exited}
 use Rattle.ideal_machine.specs.declared.event.Event.TheVariants.{Check, Void, Size, Lock, Name, Out, Input, Spawn, Begin, End, Join, Exit, Trap}
 use Rattle.ideal_machine.specs.declared.event.Answer.TheVariants.{Granted, Refused, Done, Number, Absent, End as InputEnd}
-use Rattle.ideal_machine.specs.Memory.{Memory, Object, World, Started, default_world, first_memory, thread_id}
-use Rattle.ideal_machine.specs.Allows.{IsAllowed, effect_of, with_finish}
+use Rattle.ideal_machine.specs.Memory.{Memory, World, Started, default_world, thread_id}
+use Rattle.ideal_machine.specs.Beginning.{first_memory}
+use Rattle.ideal_machine.specs.Allows.{IsAllowed}
+use Rattle.ideal_machine.specs.Effects.{effect_of, with_finish}
 use Rattle.ideal_machine.specs.Names.{KeepsApart, IsShownAs}
 use Rattle.ideal_machine.specs.Queries.{Makes, ChecksForCell, Locks, reply_to, event_of, Taken, CheckedAgain}
 
@@ -17,7 +19,7 @@ world = default_world (65 ∷ [])
 
 -- before anything has happened
 abbrev pub at_first : Memory
-at_first = first_memory world 0
+at_first = first_memory world [] 0
 
 -- after the Begin of `main`
 abbrev pub at_begin : Memory

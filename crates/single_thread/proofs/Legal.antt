@@ -11,7 +11,8 @@ use Rattle.form_tree.specs.Plain.{PlainProgram}
 use Rattle.filc_code.specs.Plain.{PlainCode}
 use Rattle.ideal_machine.specs.declared.value.Half.TheVariants.{Nothing}
 use Rattle.ideal_machine.specs.declared.event.Event.TheVariants.{Out, Exit, Trap}
-use Rattle.ideal_machine.specs.Memory.{Memory, World, first_memory, address_in, thread_id}
+use Rattle.ideal_machine.specs.Memory.{Memory, World, address_in, thread_id}
+use Rattle.ideal_machine.specs.Beginning.{first_memory}
 use Rattle.ideal_machine.specs.Allows.{IsRunning}
 use Rattle.ideal_machine.specs.Queries.{Makes}
 use Rattle.ideal_machine.specs.Play.{Gives, Stops, Asks, Jump, Call, Finished, fresh_log, log_of}
@@ -42,11 +43,11 @@ module _ (world : World) where
   lone_allowed (Stops e) h memory running going = tt
   lone_allowed (Asks (Makes (Out byte)) next) h memory running going =
       by_room (λ room. nat_lt (length memory.output) world.output ≡ room → AreAllowed world memory (out_made world byte next memory room))
-      (λ is. ((running, ltb-true (length memory.output) world.output is), All-nil _, lone_allowed (next None) (h None) _ running going))
-      (λ is. ((running, ltb-false (length memory.output) world.output is), All-nil _, lone_allowed (next (Some _)) (h (Some _)) memory running going))
+      (λ is. (record { may_make = running; objects = All-nil _; answers = ltb-true (length memory.output) world.output is }, All-nil _, lone_allowed (next None) (h None) _ running going))
+      (λ is. (record { may_make = running; objects = All-nil _; answers = ltb-false (length memory.output) world.output is }, All-nil _, lone_allowed (next (Some _)) (h (Some _)) memory running going))
       (nat_lt (length memory.output) world.output) refl
-  lone_allowed (Asks (Makes (Exit status)) next) h memory running going = ((running, going), All-nil _, over_allowed (next tt) h _)
-  lone_allowed (Asks (Makes (Trap reason line)) next) h memory running going = ((running, going), All-nil _, over_allowed (next tt) h _)
+  lone_allowed (Asks (Makes (Exit status)) next) h memory running going = (record { may_make = running; objects = All-nil _; answers = (going, refl) }, All-nil _, over_allowed (next tt) h _)
+  lone_allowed (Asks (Makes (Trap reason line)) next) h memory running going = (record { may_make = running; objects = All-nil _; answers = (going, refl) }, All-nil _, over_allowed (next tt) h _)
   lone_allowed (Asks q next) h memory running going = absurd h
   lone_allowed (Jump p) h memory running going = lone_allowed p h memory running going
   lone_allowed (Call p) h memory running going = lone_allowed p h memory running going
@@ -55,7 +56,7 @@ module _ (world : World) where
 
 module _ (world : World) (program : PlainProgram) (code : PlainCode) (plays : Plays code program) (m : ℕ) (base : ℕ → ℕ) where
   abbrev first : Memory
-  first = first_memory world code.main
+  first = first_memory world [] code.main
 
   abbrev after : Memory
   after = memory_after_begin world code
@@ -106,11 +107,11 @@ module _ (world : World) (program : PlainProgram) (code : PlainCode) (plays : Pl
 pub runs_are_legal : RunsAreLegal
 runs_are_legal world program code main plays m =
     let history = history_of_run world m code in
-    let base = λ (f : ℕ). address_in (last_memory (first_memory world f) history) in
+    let base = λ (f : ℕ). address_in (last_memory (first_memory world [] f) history) in
     record {
-      allowed = subst (λ f. AreAllowed world (first_memory world f) history) main
-          ((Nothing, refl, inl refl), All-nil _, lone_allowed world (exec_thread m code (main_start code)) (thread_lone m code) (memory_after_begin world code) refl refl);
-      played = subst (λ f. ThreadsPlay (jumps_of_run world m code + 1) program (base f) (first_memory world f) history) main
+      allowed = subst (λ f. AreAllowed world (first_memory world [] f) history) main
+          (record { may_make = (Nothing, refl, inl refl); objects = All-nil _; answers = refl }, All-nil _, lone_allowed world (exec_thread m code (main_start code)) (thread_lone m code) (memory_after_begin world code) refl refl);
+      played = subst (λ f. ThreadsPlay (jumps_of_run world m code + 1) program (base f) (first_memory world [] f) history) main
           (threads_play world program code plays m (base code.main));
     }
 
@@ -118,10 +119,10 @@ runs_are_legal world program code main plays m =
 module _ (world : World) (program : PlainProgram) (code : PlainCode) (main : code.main ≡ program.main) (plays : Plays code program) where
   beginning_legal : (n : ℕ) → IsLegalHistory (main_begin code ∷ []) program world n
   beginning_legal n =
-      let base = λ (f : ℕ). address_in (last_memory (first_memory world f) (main_begin code ∷ [])) in
+      let base = λ (f : ℕ). address_in (last_memory (first_memory world [] f) (main_begin code ∷ [])) in
       record {
-        allowed = subst (λ f. AreAllowed world (first_memory world f) (main_begin code ∷ [])) main ((Nothing, refl, inl refl), All-nil _, tt);
-        played = subst (λ f. ThreadsPlay n program (base f) (first_memory world f) (main_begin code ∷ [])) main
+        allowed = subst (λ f. AreAllowed world (first_memory world [] f) (main_begin code ∷ [])) main (record { may_make = (Nothing, refl, inl refl); objects = All-nil _; answers = refl }, All-nil _, tt);
+        played = subst (λ f. ThreadsPlay n program (base f) (first_memory world [] f) (main_begin code ∷ [])) main
             (nothing_played world program code plays 0 (base code.main) n, tt);
       }
 

@@ -11,7 +11,8 @@ use Rattle.ideal_machine.specs.declared.event.Event.{Event}
 use Rattle.ideal_machine.specs.declared.event.Event.TheVariants.{Out, Begin}
 use Rattle.ideal_machine.specs.declared.event.Answer.{Answer}
 use Rattle.ideal_machine.specs.declared.event.Answer.TheVariants.{Refused, Done}
-use Rattle.ideal_machine.specs.Memory.{Memory, World, default_world, first_memory}
+use Rattle.ideal_machine.specs.Memory.{Memory, World, default_world}
+use Rattle.ideal_machine.specs.Beginning.{first_memory}
 use Rattle.ideal_machine.specs.Values.{zero_value}
 use Rattle.ideal_machine.specs.Queries.{reply_to, event_of, wish_of}
 use Rattle.ideal_machine.specs.Play.{Stop, Waits, Gives, Stops, Asks, Jump, Call, by_reply}
@@ -89,7 +90,7 @@ main_begin code = entry_of (Begin code.main 0 Nothing) Done
 
 -- the memory after that
 abbrev pub memory_after_begin : World → PlainCode → Memory
-memory_after_begin world code = memory_after (first_memory world code.main) (main_begin code)
+memory_after_begin world code = memory_after (first_memory world [] code.main) (main_begin code)
 
 -- the history of a run: the beginning of `main`, then what at most m instructions make
 abbrev pub history_of_run : World → ℕ → PlainCode → History

@@ -4,7 +4,7 @@ use Rattle.std.specs.Prelude.{◌==◌, filter, if◌then◌else◌}
 use Rattle.form_tree.specs.Plain.{PlainProgram}
 use Rattle.ideal_machine.specs.declared.event.Event.{Event}
 use Rattle.ideal_machine.specs.declared.event.Event.TheVariants.{Begin}
-use Rattle.ideal_machine.specs.Memory.{Memory, World, first_memory}
+use Rattle.ideal_machine.specs.Memory.{Memory, World}
 use Rattle.ideal_machine.specs.Play.{Finished, Waits, Cut, Behaviour, Goes, Ends, fresh_log, log_of}
 use Rattle.ideal_machine.specs.Phrases.{Start}
 use Rattle.ideal_machine.specs.Reaches.{Reaches}
@@ -12,7 +12,7 @@ use Rattle.ideal_machine.proofs.Runs.{run_count, reached_events}
 use Rattle.ideal_machine.proofs.Cuts.{cut_reaches}
 use Rattle.ideal_machine.proofs.Fewer.{run_fewer}
 use Rattle.tree_play.specs.TreePlay.{play_thread, play}
-use Rattle.tree_play.specs.Legal.{History, memory_after, AreAllowed, Moment, moments, is_begin, until_begin, thread_moments, answers_of, AreShown, IsPlayed, start_of, BeginIsPlayed, ThreadsPlay}
+use Rattle.tree_play.specs.Legal.{History, memory_after, memory_before, AreAllowed, Moment, moments, is_begin, until_begin, thread_moments, answers_of, AreShown, IsPlayed, start_of, BeginIsPlayed, ThreadsPlay}
 use Rattle.tree_play.specs.Beginnings.{BeginningsAreLegal}
 use Rattle.tree_play.proofs.More.{thread_cut, shown_length, answers_length}
 
@@ -136,6 +136,6 @@ module _ (n : ℕ) (program : PlainProgram) where
 
 pub beginnings_are_legal : BeginningsAreLegal
 beginnings_are_legal before after program world n h = record {
-  allowed = front_allowed world before after (first_memory world program.main) h.allowed;
-  played = threads_front n program _ _ before after (first_memory world program.main) h.played;
+  allowed = front_allowed world before after (memory_before world program) h.allowed;
+  played = threads_front n program _ _ before after (memory_before world program) h.played;
 }

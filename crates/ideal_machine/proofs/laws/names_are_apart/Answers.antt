@@ -1,10 +1,10 @@
 -- Freed for an object that was freed, and for no other.
-use Rattle.std.proofs.Common.{◌≡◌, inl, inr, ⊎_elim, zero, suc, true, false, refl, sym, ◌∙◌, ap, subst}
+use Rattle.std.proofs.Common.{inl, inr, ⊎_elim, zero, suc, true, false, refl, ◌∙◌, ap, subst}
 use Rattle.ideal_machine.specs.declared.value.Half.{Half}
 use Rattle.ideal_machine.specs.declared.value.Half.TheVariants.{Nothing, Freed, Object as ObjectHalf, Function}
 use Rattle.ideal_machine.specs.declared.event.Event.{Event}
 use Rattle.ideal_machine.specs.declared.event.Event.TheVariants.{Name}
-use Rattle.ideal_machine.specs.Allows.{IsShown}
+use Rattle.ideal_machine.specs.Names.{IsShown}
 use Rattle.ideal_machine.specs.Worked.{with_object}
 use Rattle.ideal_machine.proofs.laws.names_are_apart.Goals as goal
 
