@@ -1,3 +1,4 @@
 pub mod Residues
 pub mod Conversions
 pub mod Outcomes
+pub mod WordBytes

@@ -1,7 +1,9 @@
-//! Laws of conversion and of the operators. Each is the contract of a function that does nothing.
+//! Laws of conversion, of the operators and of the bytes of a word. Each is the contract of a function
+//! that does nothing.
 
-ghost use Rattle.std.specs.Prelude.{◌≡◌, ◌≢◌, ◌↔◌, ◌%◌, ◌*◌, ◌^◌, ◌<◌, ◌≤◌, ℕ, ℤ, ◌≤ℤ◌, IfOk, IsOkAnd, IsTrue};
+ghost use Rattle.std.specs.Prelude.{◌≡◌, ◌≢◌, ◌↔◌, ◌+◌, ◌%◌, ◌*◌, ◌^◌, ◌<◌, ◌≤◌, ℕ, ℤ, ◌≤ℤ◌, IfOk, IsOkAnd, IsTrue};
 ghost use Rattle.filc_num.specs.Integers.{width_of, bytes_of, count_of, least_of, greatest_of, value_of, IsValue, convert_of, wrap, HasNoQuotient, is_comparison, result_type_of, binary_of};
+ghost use Rattle.filc_num.specs.WordBytes.{bytes_of as bytes_in, with_bytes, IsApart};
 
 use crate::integer::{ArithFault, BinOp, IntType};
 
@@ -55,4 +57,22 @@ pub fn errors_come_by_the_rule(ty: IntType, a: u64, b: u64)
         ↔ HasNoQuotient ty (value_of ty a) (value_of ty b) }
     ensures left_shift { (binary_of BinOp.Shl ty a b ≡ Err ArithFault.Shift) ↔ (width_of ty ≤ b) }
     ensures right_shift { (binary_of BinOp.Shr ty a b ≡ Err ArithFault.Shift) ↔ (width_of ty ≤ b) }
+{}
+
+/// Bytes that were put in a word are read back, every other byte stays, and the word has no more than
+/// eight bytes. Where nothing changes, the word stays.
+pub fn bytes_of_a_word_are_apart(
+    word: u64,
+    offset: u32,
+    width: u32,
+    value: u64,
+    other: u32,
+    size: u32,
+)
+    requires { offset + width ≤ 8 }
+    ensures got { bytes_in (with_bytes word offset width value) offset width ≡ value % 256 ^ width }
+    ensures apart { IsApart offset width other size
+        → bytes_in (with_bytes word offset width value) other size ≡ bytes_in word other size }
+    ensures same { with_bytes word offset width (bytes_in word offset width) ≡ word }
+    ensures fits { with_bytes word offset width value < 2 ^ 64 }
 {}

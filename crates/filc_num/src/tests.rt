@@ -291,3 +291,48 @@ fn a_static_object_begins_as_zeros(rt: HostRuntime) -> Result<(), Fail> {
     assert_eq!(rt; copy.halves.len(), 2);
     Ok(())
 }
+
+/// The bytes 01 23 45 67 89 AB CD EF, the lowest last.
+const WORD: u64 = 0x0123_4567_89AB_CDEF;
+
+/// A byte that is read or written one place off, a width that reaches past its bytes, bytes of the value
+/// above the width.
+#[test]
+fn bytes_within_a_word(rt: HostRuntime) {
+    let rows = [
+        ("the lowest byte", 0, 1, 0xEF, 0x0123_4567_89AB_CD77),
+        ("the highest byte", 7, 1, 0x01, 0x7723_4567_89AB_CDEF),
+        (
+            "two bytes in the middle",
+            3,
+            2,
+            0x6789,
+            0x0123_4566_77AB_CDEF,
+        ),
+        ("the upper four", 4, 4, 0x0123_4567, 0x4455_6677_89AB_CDEF),
+        ("all eight", 0, 8, WORD, 0x8899_1122_4455_6677),
+    ];
+    for (name, offset, width, got, put) in rows {
+        assert_eq!(rt; get_bytes(WORD, offset, width), got, "{name} is read");
+        assert_eq!(rt;
+            put_bytes(WORD, offset, width, 0x8899_1122_4455_6677),
+            put,
+            "{name} is written"
+        );
+    }
+}
+
+#[test]
+fn widths_of_an_access(rt: HostRuntime) {
+    for (width, wanted) in [
+        (0, false),
+        (1, true),
+        (2, true),
+        (3, false),
+        (4, true),
+        (8, true),
+        (16, false),
+    ] {
+        assert_eq!(rt; is_width(width), wanted, "{width}");
+    }
+}
