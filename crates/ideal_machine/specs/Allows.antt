@@ -61,10 +61,10 @@ IsOperationOn width Set = Unit {0}
 IsOperationOn width (Compute op of_object computed_in) =
     (bytes_of of_object ≡ width) × IsTrue (is_promoted computed_in)
 
--- the answer to what may be refused
-abbrev pub refused_or : Answer → Option Reason → Answer
-refused_or granted None = granted
-refused_or granted (Some reason) = Refused reason
+-- the answer to what may be refused: the reason, or this answer where there is none
+abbrev pub refusal_or : Answer → Option Reason → Answer
+refusal_or otherwise None = otherwise
+refusal_or otherwise (Some reason) = Refused reason
 
 -- the pair of this number has this address, and this half, shown
 abbrev pub IsOpened : Memory → (pair address : ℕ) → Half → Type 0
@@ -117,7 +117,7 @@ MayMake world memory actor event = IsRunning memory actor
 abbrev pub IsAnswer : World → Memory → Event → Answer → Type 0
 IsAnswer world memory (Check half address width write) answer =
     IsWidth width
-    × ((answer ≡ refused_or Granted (check_refusal memory half address width write))
+    × ((answer ≡ refusal_or Granted (check_refusal memory half address width write))
     ⊎ ((answer ≡ Refused NoCell) × (write ≡ true) × (width ≡ 8)))
 IsAnswer world memory (GetInt access) answer =
     IsAccess memory access × (answer ≡ Number (integer_at memory access))
@@ -134,9 +134,9 @@ IsAnswer world memory (CasHalf object word seen new) (FoundAnswer found) =
     HasWord memory object word × IsFoundAs memory (half_at memory object word) found
 IsAnswer world memory (New bytes kind) (Made object address) = IsNewObject memory object address
 IsAnswer world memory (New bytes kind) Absent = Unit {0}
-IsAnswer world memory (Void half address) answer = answer ≡ refused_or Granted (void_refusal memory half address)
+IsAnswer world memory (Void half address) answer = answer ≡ refusal_or Granted (void_refusal memory half address)
 IsAnswer world memory (Size half address) answer =
-    answer ≡ refused_or (Number (bytes_behind memory half)) (void_refusal memory half address)
+    answer ≡ refusal_or (Number (bytes_behind memory half)) (void_refusal memory half address)
 IsAnswer world memory (Name half address) answer = answer ≡ Done
 IsAnswer world memory (Lock object offset) answer =
     let access = lock_access object offset in

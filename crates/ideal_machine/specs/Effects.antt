@@ -10,7 +10,7 @@ use Rattle.ideal_machine.specs.declared.event.Event.TheVariants.{SetInt, RmwInt,
 use Rattle.ideal_machine.specs.declared.event.Answer.{Answer}
 use Rattle.ideal_machine.specs.declared.event.Answer.TheVariants.{Granted, Done, Number, Found as FoundAnswer, Made}
 use Rattle.ideal_machine.specs.Memory.{Object, Slot, SlotState, Free, Started, Running, Ended, Memory, zero_word}
-use Rattle.ideal_machine.specs.Words.{with_element, with_object, with_integer, operated, with_result, lock_access, with_half, is_seen}
+use Rattle.ideal_machine.specs.Words.{with_element, with_object, with_integer, operation_result, with_result, lock_access, with_half, is_seen}
 use Rattle.ideal_machine.specs.Names.{with_new_object}
 
 -- ---- objects
@@ -61,7 +61,7 @@ with_finish memory finish = record memory { finish = Some finish }
 abbrev pub effect_of : Memory → ℕ → Event → Answer → Memory
 effect_of memory actor (SetInt access value) Done = with_integer memory access value
 effect_of memory actor (RmwInt access operation value) (Number old) =
-    with_result memory access (operated operation old value)
+    with_result memory access (operation_result operation old value)
 effect_of memory actor (CasInt access expected desired) (Number old) =
     if old == expected % 256 ^ access.width then with_integer memory access desired else memory
 effect_of memory actor (SetHalf object word half) Done = with_half memory object word half

@@ -11,3 +11,5 @@ pub mod Play
 pub mod Phrases
 pub mod Reaches
 pub mod Worked
+pub mod WorkedObjects
+pub mod WorkedWords

@@ -110,17 +110,17 @@ right_operand op ty b = convert_of b ty
 abbrev pub operator_result : BinOp → IntType → ℕ → ℕ → Result ℕ ArithFault
 operator_result op ty a b = binary_of op ty (convert_of a ty) (right_operand op ty b)
 
--- a result converted to a type, where there is one
-abbrev pub converted_to : IntType → Result ℕ ArithFault → Option ℕ
-converted_to ty (Ok n) = Some (convert_of n ty)
-converted_to ty (Err fault) = None
+-- a result as a value of a type, where there is one
+abbrev pub result_as : IntType → Result ℕ ArithFault → Option ℕ
+result_as ty (Ok n) = Some (convert_of n ty)
+result_as ty (Err fault) = None
 
 -- what an operation makes of the old bytes and the event's value: nothing where its operator has no result. The old bytes
 -- are a value of the object's type
-abbrev pub operated : Operation → (old value : ℕ) → Option ℕ
-operated Set old value = Some value
-operated (Compute op of_object computed_in) old value =
-    converted_to of_object (operator_result op computed_in (convert_of old of_object) value)
+abbrev pub operation_result : Operation → (old value : ℕ) → Option ℕ
+operation_result Set old value = Some value
+operation_result (Compute op of_object computed_in) old value =
+    result_as of_object (operator_result op computed_in (convert_of old of_object) value)
 
 -- the memory with the result of an operation there, where it has one
 abbrev pub with_result : Memory → Access → Option ℕ → Memory

@@ -7,6 +7,21 @@ ghost use Rattle.ideal_machine.specs.Worked.{SpawnGivesAFreeSlot, NoIdOfAnotherS
 ghost use Rattle.ideal_machine.specs.Worked.{SpawnedThreadBegins, ResultIsTakenOnce};
 ghost use Rattle.ideal_machine.specs.Worked.{CellIsWantedByPointers, LocksAreCheckedAgain};
 ghost use Rattle.ideal_machine.specs.Worked.{FreedIsShown, CoveredIsNotNamed};
+ghost use Rattle.ideal_machine.specs.WorkedObjects.{StaticsHaveTheirContents, LiteralsAreReadOnly};
+ghost use Rattle.ideal_machine.specs.WorkedObjects.{NewObjectsAreNext, NewObjectsAreZero};
+ghost use Rattle.ideal_machine.specs.WorkedObjects.{PointersWithoutObjects, AccessesAreInBounds};
+ghost use Rattle.ideal_machine.specs.WorkedObjects.{ChecksAreOfWidths, CellsAreWantedByWrites};
+ghost use Rattle.ideal_machine.specs.WorkedObjects.{ObjectsAreFreedOnce, FreedObjectsStay};
+ghost use Rattle.ideal_machine.specs.WorkedObjects.{SizesAreOfWholeObjects, NamesAreThere};
+ghost use Rattle.ideal_machine.specs.WorkedObjects.{NewObjectsCover, CoveredObjectsAreGone};
+ghost use Rattle.ideal_machine.specs.WorkedObjects.{CyclesEndInOrder};
+ghost use Rattle.ideal_machine.specs.WorkedWords.{IntegersAreStoredInBytes, AccessesAreInside};
+ghost use Rattle.ideal_machine.specs.WorkedWords.{OperationsAreComputedInTheirTypes, OperationsFitTheirAccess};
+ghost use Rattle.ideal_machine.specs.WorkedWords.{RefusedOperationsChangeNothing};
+ghost use Rattle.ideal_machine.specs.WorkedWords.{ExchangesCompareTheBytes};
+ghost use Rattle.ideal_machine.specs.WorkedWords.{HalvesAreApart, HalvesAreFound};
+ghost use Rattle.ideal_machine.specs.WorkedWords.{PairsAreFoundByNumber, HalvesAreExchanged};
+ghost use Rattle.ideal_machine.specs.WorkedWords.{LocksAreTakenOnce, ThreadsBeginWithTheirHalf, ThreadsBeginWithFreed};
 
 /// The first memory lets `main` begin, in slot 0 and once.
 pub fn main_begins_first()
@@ -54,4 +69,73 @@ pub fn replies_fit_their_queries()
 pub fn names_are_apart()
     ensures freed { FreedIsShown }
     ensures covered { CoveredIsNotNamed }
+{}
+
+/// Static objects have their addresses and contents from the first, and a literal is never written.
+pub fn statics_are_there_from_the_first()
+    ensures contents { StaticsHaveTheirContents }
+    ensures read_only { LiteralsAreReadOnly }
+{}
+
+/// A new object is the next one, at a multiple of 8, and zero.
+pub fn new_objects_are_zero()
+    ensures next { NewObjectsAreNext }
+    ensures zero { NewObjectsAreZero }
+{}
+
+/// A check gives the first reason against an access, and grants what has none.
+pub fn checks_give_the_first_reason()
+    ensures without_object { PointersWithoutObjects }
+    ensures in_bounds { AccessesAreInBounds }
+    ensures widths { ChecksAreOfWidths }
+    ensures cells { CellsAreWantedByWrites }
+{}
+
+/// An object is freed once, by its own address, and stays as it was.
+pub fn objects_are_freed_once()
+    ensures once { ObjectsAreFreedOnce }
+    ensures stays { FreedObjectsStay }
+    ensures sizes { SizesAreOfWholeObjects }
+    ensures names { NamesAreThere }
+{}
+
+/// What a new object lies on can't be named any more, unless it was freed.
+pub fn new_objects_cover()
+    ensures covers { NewObjectsCover }
+    ensures gone { CoveredObjectsAreGone }
+{}
+
+/// The collector's cycles end one after another.
+pub fn cycles_end_in_order()
+    ensures { CyclesEndInOrder }
+{}
+
+/// An integer is stored in bytes, the lowest first.
+pub fn integers_are_stored_in_bytes()
+    ensures bytes { IntegersAreStoredInBytes }
+    ensures inside { AccessesAreInside }
+{}
+
+/// An operation is computed in its types, and one without a result changes nothing.
+#[tactic(auto, unfolding(filc_num::specs::Integers::convert_of, filc_num::specs::Integers::binary_of))]
+pub fn operations_are_computed_in_their_types()
+    ensures types { OperationsAreComputedInTheirTypes }
+    ensures fits { OperationsFitTheirAccess }
+    ensures refused { RefusedOperationsChangeNothing }
+    ensures exchanges { ExchangesCompareTheBytes }
+{}
+
+/// A half is stored beside its integer; a pair is found by its number.
+pub fn halves_are_stored_beside_integers()
+    ensures apart { HalvesAreApart }
+    ensures found { HalvesAreFound }
+    ensures pairs { PairsAreFoundByNumber }
+    ensures exchanges { HalvesAreExchanged }
+{}
+
+/// A lock is taken where it is 0, and a thread begins with the half that it was started with.
+pub fn locks_and_threads()
+    ensures locks { LocksAreTakenOnce }
+    ensures halves { ThreadsBeginWithTheirHalf }
+    ensures freed { ThreadsBeginWithFreed }
 {}
