@@ -4,3 +4,12 @@ pub mod Fewer
 pub mod Replies
 pub mod Names
 pub mod Values
+pub mod Elements
+pub mod EffectCases
+pub mod Growth
+pub mod Halves
+pub mod ObjectsApart
+pub mod Inside
+pub mod Ends
+pub mod Turns
+pub mod There

@@ -11,5 +11,10 @@ pub mod Play
 pub mod Phrases
 pub mod Reaches
 pub mod Worked
+pub mod Growth
+pub mod Apart
+pub mod Inside
+pub mod There
+pub mod Turns
 pub mod WorkedObjects
 pub mod WorkedWords

@@ -172,10 +172,10 @@ NewObjectsCover =
     let over = after with_two (New 8 0) (Made 2 65544) in
     let over_freed = after with_freed_one (New 8 0) (Made 2 65544) in
     let none = after at_begin (New 0 0) (Made 0 65536) in (
-      ((object_at over 0).covered ≡ true) × ((object_at over 1).covered ≡ false) × ((object_at over 2).covered ≡ false)
-      × ((object_at over_freed 0).covered ≡ false)
-      × ((object_at (after none (New 0 0) (Made 1 65536)) 0).covered ≡ true)
-      × ((object_at (after none (New 0 0) (Made 1 65544)) 0).covered ≡ false)
+    ((object_at over 0).covered ≡ true) × ((object_at over 1).covered ≡ false) × ((object_at over 2).covered ≡ false)
+    × ((object_at over_freed 0).covered ≡ false)
+    × ((object_at (after none (New 0 0) (Made 1 65536)) 0).covered ≡ true)
+    × ((object_at (after none (New 0 0) (Made 1 65544)) 0).covered ≡ false)
     )
 
 -- what is covered can't be named any more

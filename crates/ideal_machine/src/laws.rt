@@ -1,5 +1,12 @@
-//! Worked examples of the transitions and of replies, as laws.
+//! What holds of every transition, and worked examples of the transitions and of replies.
 
+ghost use Rattle.ideal_machine.specs.Growth.{EventsOnlyAdd, EventsKeepEnds};
+ghost use Rattle.ideal_machine.specs.Apart.{IntegersLeaveHalves, HalvesLeaveIntegers};
+ghost use Rattle.ideal_machine.specs.Apart.{StaticsAreApart, ObjectsStayApart};
+ghost use Rattle.ideal_machine.specs.Inside.{AccessesLieInside, HalvesLieInside};
+ghost use Rattle.ideal_machine.specs.Inside.{ChecksAreExact, FreesAreExact};
+ghost use Rattle.ideal_machine.specs.Turns.{OnlyRunningThreadsAct, MainComesFirst, IdsAreOfTheirThread};
+ghost use Rattle.ideal_machine.specs.There.{HalvesAreThereFirst, HalvesStayThere, AnswersNameObjects};
 ghost use Rattle.ideal_machine.specs.Worked.{MainBegins, OnlyMainBegins, MainBeginsOnce, EndsOnce};
 ghost use Rattle.ideal_machine.specs.Worked.{NoOutBeforeBegin, OutAfterBegin, NoRefusalWithRoom};
 ghost use Rattle.ideal_machine.specs.Worked.{RefusalWithoutRoom, NoByteWithoutRoom, InputComesOnce};
@@ -22,6 +29,65 @@ ghost use Rattle.ideal_machine.specs.WorkedWords.{ExchangesCompareTheBytes};
 ghost use Rattle.ideal_machine.specs.WorkedWords.{HalvesAreApart, HalvesAreFound};
 ghost use Rattle.ideal_machine.specs.WorkedWords.{PairsAreFoundByNumber, HalvesAreExchanged};
 ghost use Rattle.ideal_machine.specs.WorkedWords.{LocksAreTakenOnce, ThreadsBeginWithTheirHalf, ThreadsBeginWithFreed};
+
+// ---- of every transition
+
+/// Objects and pairs only grow in number. An object stays where it is, with its size and kind, and a
+/// freed or covered one stays so.
+pub fn events_only_add()
+    ensures { EventsOnlyAdd }
+{}
+
+/// What has ended stays so: the program, and each cycle.
+pub fn events_keep_ends()
+    ensures { EventsKeepEnds }
+{}
+
+/// What writes an integer leaves every half and every pair, and what writes a half every integer.
+pub fn halves_and_integers_are_apart()
+    ensures integers { IntegersLeaveHalves }
+    ensures halves { HalvesLeaveIntegers }
+{}
+
+/// Two objects that are neither freed nor covered share no byte: it holds of the static objects, and
+/// every event leaves it so.
+pub fn objects_in_use_share_no_byte()
+    ensures first { StaticsAreApart }
+    ensures stay { ObjectsStayApart }
+{}
+
+/// The bytes and the word that an allowed event accesses are those of an object that is there.
+pub fn accesses_lie_inside_their_objects()
+    ensures bytes { AccessesLieInside }
+    ensures halves { HalvesLieInside }
+{}
+
+/// What a check and a `free` that nothing refuses say of their pointer, and where they come.
+pub fn refusals_are_exact()
+    ensures checks { ChecksAreExact }
+    ensures frees { FreesAreExact }
+{}
+
+/// Only a running thread makes events, but for a thread that begins and the collector; and the first
+/// thread that begins is that of `main`.
+pub fn only_running_threads_act()
+    ensures makers { OnlyRunningThreadsAct }
+    ensures first { MainComesFirst }
+{}
+
+/// An id is that of one thread: of the one that is spawned, and of the one whose result is taken.
+pub fn ids_are_of_their_thread()
+    ensures { IdsAreOfTheirThread }
+{}
+
+/// A half that is kept names an object that is there, and so does one that is found.
+pub fn halves_name_objects_that_are_there()
+    ensures first { HalvesAreThereFirst }
+    ensures stay { HalvesStayThere }
+    ensures answers { AnswersNameObjects }
+{}
+
+// ---- worked examples
 
 /// The first memory lets `main` begin, in slot 0 and once.
 pub fn main_begins_first()
