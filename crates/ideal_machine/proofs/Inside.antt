@@ -23,10 +23,10 @@ within_sum bytes offset width h =
     let parts = and_parts (nat_le width bytes) (nat_le offset (bytes - width)) h in
     omega (arith, leb-true width bytes parts.0, leb-true offset (bytes - width) parts.1)
 
-some_width : (width : ℕ) → IsWidth width → 0 < width
+pub some_width : (width : ℕ) → IsWidth width → 0 < width
 some_width width h = grind (arith, h)
 
-access_inside : (memory : Memory) (access : Access) → IsAccess memory access → LiesInside memory access
+pub access_inside : (memory : Memory) (access : Access) → IsAccess memory access → LiesInside memory access
 access_inside memory access h = by_object (slice_get memory.objects access.object) refl (within_sum _ access.offset access.width h.inside)
   where
     by_object :
@@ -50,7 +50,7 @@ accesses_lie_inside world memory actor (Lock object offset) answer h access e =
     at_access memory (lock_access object offset) access e h.answers.0
 accesses_lie_inside world memory actor event answer h access e = absurd (cc)
 
-word_inside : (memory : Memory) (object word : ℕ) → HasWord memory object word → IsWordOf memory (record { object = object; word = word })
+pub word_inside : (memory : Memory) (object word : ℕ) → HasWord memory object word → IsWordOf memory (record { object = object; word = word })
 word_inside memory object word h = by_object (slice_get memory.objects object) refl h
   where
     by_object :

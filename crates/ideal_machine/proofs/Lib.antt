@@ -13,3 +13,5 @@ pub mod Inside
 pub mod Ends
 pub mod Turns
 pub mod There
+pub mod Stores
+pub mod Fits

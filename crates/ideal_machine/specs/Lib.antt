@@ -15,6 +15,8 @@ pub mod Growth
 pub mod Apart
 pub mod Inside
 pub mod There
+pub mod Stores
+pub mod Fits
 pub mod Turns
 pub mod WorkedObjects
 pub mod WorkedWords

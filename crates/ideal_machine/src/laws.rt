@@ -7,6 +7,10 @@ ghost use Rattle.ideal_machine.specs.Inside.{AccessesLieInside, HalvesLieInside}
 ghost use Rattle.ideal_machine.specs.Inside.{ChecksAreExact, FreesAreExact};
 ghost use Rattle.ideal_machine.specs.Turns.{OnlyRunningThreadsAct, MainComesFirst, IdsAreOfTheirThread};
 ghost use Rattle.ideal_machine.specs.There.{HalvesAreThereFirst, HalvesStayThere, AnswersNameObjects};
+ghost use Rattle.ideal_machine.specs.Stores.{ObjectsAreWholeFirst, ObjectsStayWhole};
+ghost use Rattle.ideal_machine.specs.Stores.{StoredIntegersAreRead, OtherIntegersStay};
+ghost use Rattle.ideal_machine.specs.Stores.{StoredHalvesAreFound, OtherHalvesStay};
+ghost use Rattle.ideal_machine.specs.Fits.{AllowedAnswersAreReplies, AllowedChecksAreReplies};
 ghost use Rattle.ideal_machine.specs.Worked.{MainBegins, OnlyMainBegins, MainBeginsOnce, EndsOnce};
 ghost use Rattle.ideal_machine.specs.Worked.{NoOutBeforeBegin, OutAfterBegin, NoRefusalWithRoom};
 ghost use Rattle.ideal_machine.specs.Worked.{RefusalWithoutRoom, NoByteWithoutRoom, InputComesOnce};
@@ -85,6 +89,26 @@ pub fn halves_name_objects_that_are_there()
     ensures first { HalvesAreThereFirst }
     ensures stay { HalvesStayThere }
     ensures answers { AnswersNameObjects }
+{}
+
+/// Each object has a word for each of its 8 bytes.
+pub fn objects_have_their_words()
+    ensures first { ObjectsAreWholeFirst }
+    ensures stay { ObjectsStayWhole }
+{}
+
+/// What was stored is read, and everywhere else what was there before.
+pub fn stores_are_read()
+    ensures integers { StoredIntegersAreRead }
+    ensures other_integers { OtherIntegersStay }
+    ensures halves { StoredHalvesAreFound }
+    ensures other_halves { OtherHalvesStay }
+{}
+
+/// An allowed answer is a reply to its event, so no thread waits for want of one.
+pub fn allowed_answers_are_replies()
+    ensures events { AllowedAnswersAreReplies }
+    ensures checks { AllowedChecksAreReplies }
 {}
 
 // ---- worked examples
