@@ -22,7 +22,7 @@ same_object o = record { address = refl; bytes = refl; kind = refl; freed = λ h
 there : {A : Type 0} (P : A → Type 0) (o : Option A) (x : A) → o ≡ Some x → P x → IsSomeAnd o P
 there P o x e h = subst (λ o. IsSomeAnd o P) (sym e) h
 
-same_objects : (objects : List Object) → HasLaterObjects objects objects
+pub same_objects : (objects : List Object) → HasLaterObjects objects objects
 same_objects objects n o e = there (IsLaterObject o) (slice_get objects n) o e (same_object o)
 
 -- a change to each object that leaves it the same object

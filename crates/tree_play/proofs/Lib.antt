@@ -2,3 +2,4 @@ pub mod Far
 pub mod More
 mod Beginnings
 mod EndsLast
+mod Objects

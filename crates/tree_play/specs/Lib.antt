@@ -4,4 +4,5 @@ pub mod Observable
 pub mod MoreRounds
 pub mod Beginnings
 pub mod EndsLast
+pub mod Objects
 pub mod Worked

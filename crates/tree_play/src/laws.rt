@@ -3,6 +3,8 @@
 ghost use Rattle.tree_play.specs.Beginnings.{BeginningsAreLegal};
 ghost use Rattle.tree_play.specs.EndsLast.{NothingFollowsAnEnd};
 ghost use Rattle.tree_play.specs.MoreRounds.{MoreRounds};
+ghost use Rattle.tree_play.specs.Objects.{ObjectsStay, ObjectsNeverMove};
+ghost use Rattle.tree_play.specs.Objects.{ObjectsAreApart, CoveredObjectsAreNotNamed};
 ghost use Rattle.tree_play.specs.Worked.{MainReturns, NothingElse, NothingAfterExit, NoSecondBegin};
 ghost use Rattle.tree_play.specs.Worked.{ThreadsHaveTheirIds};
 
@@ -19,6 +21,19 @@ pub fn beginnings_are_legal()
 /// A thread makes nothing after it ended itself or the program.
 pub fn nothing_follows_an_end()
     ensures { NothingFollowsAnEnd }
+{}
+
+/// In a history no object moves, changes its size or comes back from being freed or covered.
+pub fn objects_stay()
+    ensures objects { ObjectsStay }
+    ensures addresses { ObjectsNeverMove }
+{}
+
+/// No thread sees two objects at one address: at no time do two in use share a byte, and what is
+/// covered is named no more.
+pub fn no_two_objects_are_seen_at_one_address()
+    ensures apart { ObjectsAreApart }
+    ensures covered { CoveredObjectsAreNotNamed }
 {}
 
 /// A worked example: the histories of a program that returns 3.
