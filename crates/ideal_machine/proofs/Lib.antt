@@ -11,7 +11,7 @@ pub mod Halves
 pub mod ObjectsApart
 pub mod Inside
 pub mod Ends
-pub mod Turns
+pub mod Makers
 pub mod There
 pub mod Stores
 pub mod Fits

@@ -31,7 +31,7 @@ use Rattle.ideal_machine.specs.There.{HalfIsThere, FoundIsThere, HalvesAreThere,
 use Rattle.ideal_machine.proofs.Elements.{length-with_element, FromElement, as_it_was, as_changed, element_from, FromAdded, earlier, added, added_from}
 use Rattle.ideal_machine.proofs.EffectCases.{either}
 use Rattle.ideal_machine.proofs.ObjectsApart.{static_at}
-use Rattle.ideal_machine.proofs.Turns.{first_state}
+use Rattle.ideal_machine.proofs.Makers.{first_state}
 
 -- ---- what is there stays there
 

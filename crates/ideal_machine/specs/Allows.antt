@@ -23,8 +23,8 @@
 --     Collected     done, by the collector, where the cycle is the next one
 --     Exit, Trap    done, where the program hasn't ended
 --
--- Every event but Begin and Collected needs that its actor's thread is running, and names only objects that are there. An
--- access lies inside its object and is aligned.
+-- Every event but Begin and Collected needs that its actor's thread is running, and each one names only objects that are
+-- there. An access lies inside its object and is aligned.
 use Rattle.std.specs.Prelude.{◌≡◌, ◌⊎◌, ℕ, ◌+◌, ◌/◌, ◌%◌, ◌<◌, ◌≤◌, length, true, IsTrue, IsSomeAnd, Option, Some, None, option_map, slice_get}
 use Rattle.filc_num.specs.Integers.{bytes_of, is_promoted}
 use Rattle.filc_num.specs.WordBytes.{IsWidth}

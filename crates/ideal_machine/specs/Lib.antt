@@ -17,6 +17,6 @@ pub mod Inside
 pub mod There
 pub mod Stores
 pub mod Fits
-pub mod Turns
+pub mod Makers
 pub mod WorkedObjects
 pub mod WorkedWords

@@ -116,6 +116,22 @@ ResultIsTakenOnce =
     × IsAllowed world after_end 0 (Join 1) (Number 5) × (¬ IsAllowed world after_end 0 (Join 1) (Number 6))
     × IsAllowed world after_join 0 (Join 1) Absent × (thread_id after_join 1 ≡ 65) × IsAllowed world after_join 0 (Spawn 2 8 Nothing) (Number 65)
 
+-- a running thread may end, and then it makes no event more
+abbrev pub ThreadsEndOnce : Type 0
+ThreadsEndOnce =
+    IsAllowed world after_second_begin 1 (End 5) Done × (¬ IsAllowed world after_spawn 1 (End 5) Done)
+    × (¬ IsAllowed world after_end 1 (End 5) Done) × (¬ IsAllowed world after_end 1 (Out 65) Done)
+
+-- a running thread may end the program, by itself or by a trap; another thread may go on then
+abbrev pub after_exit : Memory
+after_exit = effect_of after_second_begin 1 (Exit 3) Done
+
+abbrev pub ProgramsEnd : Type 0
+ProgramsEnd =
+    IsAllowed world at_begin 0 (Exit 3) Done × IsAllowed world at_begin 0 (Trap Divide 1) Done
+    × (¬ IsAllowed world at_first 0 (Exit 3) Done) × (after_exit.finish ≡ Some (Exited 3))
+    × IsAllowed world after_exit 0 (Out 65) Done × (¬ IsAllowed world after_exit 0 (Exit 0) Done)
+
 -- ---- replies
 
 -- want of a cell is a reply to the check of a pointer's store, and to no other check
@@ -139,19 +155,19 @@ LocksAreCheckedAgain =
 -- ---- names
 
 -- the memory with one object of 8 bytes, which was freed or wasn't, and is covered or isn't
-abbrev pub with_object : (freed covered : Bool) → Memory
-with_object freed covered = record at_begin {
+abbrev pub memory_with_object : (freed covered : Bool) → Memory
+memory_with_object freed covered = record at_begin {
   objects = record { address = 65536; bytes = 8; kind = 0; freed = freed; covered = covered; words = [] } ∷ [];
 }
 
 -- Freed stands for the half of an object that was freed, and of no other
 abbrev pub FreedIsShown : Type 0
 FreedIsShown =
-    IsShownAs (with_object true false) (Name (ObjectHalf 0) 65536) (Name Freed 65536)
-    × (¬ IsShownAs (with_object false false) (Name (ObjectHalf 0) 65536) (Name Freed 65536))
+    IsShownAs (memory_with_object true false) (Name (ObjectHalf 0) 65536) (Name Freed 65536)
+    × (¬ IsShownAs (memory_with_object false false) (Name (ObjectHalf 0) 65536) (Name Freed 65536))
 
 -- no event names a covered object
 abbrev pub CoveredIsNotNamed : Type 0
 CoveredIsNotNamed =
-    KeepsApart (with_object true false) (Check (ObjectHalf 0) 65536 1 false) Granted
-    × (¬ KeepsApart (with_object true true) (Check (ObjectHalf 0) 65536 1 false) Granted)
+    KeepsApart (memory_with_object true false) (Check (ObjectHalf 0) 65536 1 false) Granted
+    × (¬ KeepsApart (memory_with_object true true) (Check (ObjectHalf 0) 65536 1 false) Granted)

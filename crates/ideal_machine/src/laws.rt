@@ -5,17 +5,17 @@ ghost use Rattle.ideal_machine.specs.Apart.{IntegersLeaveHalves, HalvesLeaveInte
 ghost use Rattle.ideal_machine.specs.Apart.{StaticsAreApart, ObjectsStayApart};
 ghost use Rattle.ideal_machine.specs.Inside.{AccessesLieInside, HalvesLieInside};
 ghost use Rattle.ideal_machine.specs.Inside.{ChecksAreExact, FreesAreExact};
-ghost use Rattle.ideal_machine.specs.Turns.{OnlyRunningThreadsAct, MainComesFirst, IdsAreOfTheirThread};
+ghost use Rattle.ideal_machine.specs.Makers.{OnlyRunningThreadsAct, MainComesFirst, IdsAreOfTheirThread};
 ghost use Rattle.ideal_machine.specs.There.{HalvesAreThereFirst, HalvesStayThere, AnswersNameObjects};
 ghost use Rattle.ideal_machine.specs.Stores.{ObjectsAreWholeFirst, ObjectsStayWhole};
 ghost use Rattle.ideal_machine.specs.Stores.{StoredIntegersAreRead, OtherIntegersStay};
 ghost use Rattle.ideal_machine.specs.Stores.{StoredHalvesAreFound, OtherHalvesStay};
 ghost use Rattle.ideal_machine.specs.Fits.{AllowedAnswersAreReplies, AllowedChecksAreReplies};
-ghost use Rattle.ideal_machine.specs.Worked.{MainBegins, OnlyMainBegins, MainBeginsOnce, EndsOnce};
+ghost use Rattle.ideal_machine.specs.Worked.{MainBegins, OnlyMainBegins, MainBeginsOnce, EndsOnce, ProgramsEnd};
 ghost use Rattle.ideal_machine.specs.Worked.{NoOutBeforeBegin, OutAfterBegin, NoRefusalWithRoom};
 ghost use Rattle.ideal_machine.specs.Worked.{RefusalWithoutRoom, NoByteWithoutRoom, InputComesOnce};
 ghost use Rattle.ideal_machine.specs.Worked.{SpawnGivesAFreeSlot, NoIdOfAnotherSlot};
-ghost use Rattle.ideal_machine.specs.Worked.{SpawnedThreadBegins, ResultIsTakenOnce};
+ghost use Rattle.ideal_machine.specs.Worked.{SpawnedThreadBegins, ResultIsTakenOnce, ThreadsEndOnce};
 ghost use Rattle.ideal_machine.specs.Worked.{CellIsWantedByPointers, LocksAreCheckedAgain};
 ghost use Rattle.ideal_machine.specs.Worked.{FreedIsShown, CoveredIsNotNamed};
 ghost use Rattle.ideal_machine.specs.WorkedObjects.{StaticsHaveTheirContents, LiteralsAreReadOnly};
@@ -120,9 +120,10 @@ pub fn main_begins_first()
     ensures main_begins_once { MainBeginsOnce }
 {}
 
-/// A program that has ended doesn't end again.
+/// A running thread may end the program, and it doesn't end again.
 pub fn a_program_ends_once()
-    ensures { EndsOnce }
+    ensures ends { ProgramsEnd }
+    ensures once { EndsOnce }
 {}
 
 /// A byte is put out by a thread that has begun and by no other, and is refused exactly where the
@@ -146,6 +147,7 @@ pub fn ids_are_of_their_slots()
     ensures spawn_gives_a_free_slot { SpawnGivesAFreeSlot }
     ensures no_id_of_another_slot { NoIdOfAnotherSlot }
     ensures spawned_thread_begins { SpawnedThreadBegins }
+    ensures threads_end_once { ThreadsEndOnce }
     ensures result_is_taken_once { ResultIsTakenOnce }
 {}
 

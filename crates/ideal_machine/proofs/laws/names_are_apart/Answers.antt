@@ -5,14 +5,14 @@ use Rattle.ideal_machine.specs.declared.value.Half.TheVariants.{Nothing, Freed, 
 use Rattle.ideal_machine.specs.declared.event.Event.{Event}
 use Rattle.ideal_machine.specs.declared.event.Event.TheVariants.{Name}
 use Rattle.ideal_machine.specs.Names.{IsShown}
-use Rattle.ideal_machine.specs.Worked.{with_object}
+use Rattle.ideal_machine.specs.Worked.{memory_with_object}
 use Rattle.ideal_machine.proofs.laws.names_are_apart.Goals as goal
 
 abbrev shown : Half → Half
 shown (ObjectHalf zero) = Freed
 shown half = half
 
-is_shown : (half : Half) → IsShown (with_object true false) half (shown half)
+is_shown : (half : Half) → IsShown (memory_with_object true false) half (shown half)
 is_shown (ObjectHalf zero) = inr (refl, refl)
 is_shown (ObjectHalf (suc n)) = inl refl
 is_shown Nothing = inl refl

@@ -1,4 +1,4 @@
-use Rattle.ideal_machine.proofs.Turns.{only_running_threads_act, main_comes_first}
+use Rattle.ideal_machine.proofs.Makers.{only_running_threads_act, main_comes_first}
 use Rattle.ideal_machine.proofs.laws.only_running_threads_act.Goals as goal
 
 pub returns-clause-makers : goal.returns-clause-makers

@@ -1,4 +1,4 @@
--- Whose turn it is: no event but Begin is allowed to a thread that doesn't run, and the first one of all is the Begin of
+-- Who makes an event: none but Begin is allowed to a thread that doesn't run, and the first one of all is the Begin of
 -- `main`.
 use Rattle.std.specs.Prelude.{◌≡◌, ℕ, ◌+◌, ◌%◌, List}
 use Rattle.filc_num.specs.StaticDefs.{PlainStatic}

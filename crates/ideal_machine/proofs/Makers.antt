@@ -1,4 +1,4 @@
--- Whose turn it is.
+-- Who makes an event.
 use Rattle.std.proofs.Common.{◌≡◌, ◌⊎◌, inl, inr, ⊎_elim, ℕ, zero, suc, ◌+◌, ◌-◌, ◌/◌, ◌%◌, List, Option, Some, None, refl, sym, ◌∙◌, ap, subst, arith}
 use Rattle.std.specs.Prelude.{slice_get, option_map, IsSomeAnd, replicate}
 use Rattle.filc_num.specs.StaticDefs.{PlainStatic}
@@ -12,7 +12,7 @@ use Rattle.ideal_machine.specs.Beginning.{fresh_slot, first_memory}
 use Rattle.ideal_machine.specs.Effects.{next_generation}
 use Rattle.ideal_machine.specs.Names.{IsShown}
 use Rattle.ideal_machine.specs.Allows.{state_of, IsRunning, IsStarted}
-use Rattle.ideal_machine.specs.Turns.{runs, begins, collects, OnlyRunningThreadsAct, IsFirst, main_begins, cycle_ends, MainComesFirst, IdsAreOfTheirThread}
+use Rattle.ideal_machine.specs.Makers.{runs, begins, collects, OnlyRunningThreadsAct, IsFirst, main_begins, cycle_ends, MainComesFirst, IdsAreOfTheirThread}
 use Rattle.ideal_machine.proofs.Elements.{get-with_same}
 
 pub only_running_threads_act : OnlyRunningThreadsAct
