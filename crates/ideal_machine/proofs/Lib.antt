@@ -15,3 +15,4 @@ pub mod Makers
 pub mod There
 pub mod Stores
 pub mod Fits
+pub mod Regions

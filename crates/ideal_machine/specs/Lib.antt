@@ -12,6 +12,7 @@ pub mod Phrases
 pub mod Reaches
 pub mod Worked
 pub mod Growth
+pub mod Regions
 pub mod Apart
 pub mod Inside
 pub mod There

@@ -1,6 +1,7 @@
 //! What holds of every transition, and worked examples of the transitions and of replies.
 
 ghost use Rattle.ideal_machine.specs.Growth.{EventsOnlyAdd, EventsKeepEnds};
+ghost use Rattle.ideal_machine.specs.Regions.{EventsChangeTheirRegion};
 ghost use Rattle.ideal_machine.specs.Apart.{IntegersLeaveHalves, HalvesLeaveIntegers};
 ghost use Rattle.ideal_machine.specs.Apart.{StaticsAreApart, ObjectsStayApart};
 ghost use Rattle.ideal_machine.specs.Inside.{AccessesLieInside, HalvesLieInside};
@@ -40,6 +41,12 @@ ghost use Rattle.ideal_machine.specs.WorkedWords.{LocksAreTakenOnce, ThreadsBegi
 /// freed or covered one stays so.
 pub fn events_only_add()
     ensures { EventsOnlyAdd }
+{}
+
+/// What only reads changes nothing; an event on objects leaves the threads and the outside, and one of
+/// threads or of the outside every object.
+pub fn events_change_their_region()
+    ensures { EventsChangeTheirRegion }
 {}
 
 /// What has ended stays so: the program, and each cycle.
