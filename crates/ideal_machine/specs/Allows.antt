@@ -103,7 +103,8 @@ HasThread memory id = IsSomeAnd (slice_get memory.slots (id % 64)) (λ slot. slo
 
 -- the thread with this id is ended with this result
 abbrev pub HasResult : Memory → ℕ → ℕ → Type 0
-HasResult memory id result = slice_get memory.slots (id % 64) ≡ Some (record { generation = id / 64; state = Ended result })
+HasResult memory id result =
+    slice_get memory.slots (id % 64) ≡ Some (record { generation = id / 64; state = Ended result })
 
 -- ---- what is allowed
 

@@ -59,7 +59,8 @@ pub record IsInUse (object : Object) : Type 0 where
 -- two objects in use share no byte
 abbrev pub AreApart : List Object → Type 0
 AreApart objects =
-    (n m : ℕ) (a b : Object) → n ≢ m → slice_get objects n ≡ Some a → slice_get objects m ≡ Some b → IsInUse a → IsInUse b →
+    (n m : ℕ) (a b : Object) → n ≢ m → slice_get objects n ≡ Some a → slice_get objects m ≡ Some b →
+    IsInUse a → IsInUse b →
     (byte : ℕ) → TakesUp a byte → ¬ TakesUp b byte
 
 -- the static objects are apart, and every event leaves objects apart

@@ -13,7 +13,8 @@ use Rattle.ideal_machine.specs.Allows.{IsAllowed}
 
 abbrev pub AllowedAnswersAreReplies : Type 0
 AllowedAnswersAreReplies =
-    (world : World) (memory : Memory) (actor : ℕ) (event : Event) (answer : Answer) → IsAllowed world memory actor event answer →
+    (world : World) (memory : Memory) (actor : ℕ) (event : Event) (answer : Answer) →
+    IsAllowed world memory actor event answer →
     IsSome (event_reply event answer) ⊎ (answer ≡ Refused NoCell)
 
 abbrev pub AllowedChecksAreReplies : Type 0

@@ -30,7 +30,8 @@ pub record LiesInside (memory : Memory) (access : Access) : Type 0 where
 
 abbrev pub AccessesLieInside : Type 0
 AccessesLieInside =
-    (world : World) (memory : Memory) (actor : ℕ) (event : Event) (answer : Answer) → IsAllowed world memory actor event answer →
+    (world : World) (memory : Memory) (actor : ℕ) (event : Event) (answer : Answer) →
+    IsAllowed world memory actor event answer →
     (access : Access) → access_of event ≡ Some access → LiesInside memory access
 
 -- the word of an object whose half an event accesses
@@ -52,7 +53,8 @@ pub record IsWordOf (memory : Memory) (name : WordName) : Type 0 where
 
 abbrev pub HalvesLieInside : Type 0
 HalvesLieInside =
-    (world : World) (memory : Memory) (actor : ℕ) (event : Event) (answer : Answer) → IsAllowed world memory actor event answer →
+    (world : World) (memory : Memory) (actor : ℕ) (event : Event) (answer : Answer) →
+    IsAllowed world memory actor event answer →
     (name : WordName) → word_of event ≡ Some name → IsWordOf memory name
 
 -- ---- checks
@@ -88,4 +90,5 @@ pub record MayFree (memory : Memory) (half : Half) (address : ℕ) : Type 0 wher
 
 abbrev pub FreesAreExact : Type 0
 FreesAreExact =
-    (memory : Memory) (half : Half) (address : ℕ) → (void_refusal memory half address ≡ None) ↔ MayFree memory half address
+    (memory : Memory) (half : Half) (address : ℕ) →
+    (void_refusal memory half address ≡ None) ↔ MayFree memory half address

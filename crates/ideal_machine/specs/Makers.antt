@@ -17,7 +17,8 @@ use Rattle.ideal_machine.specs.Effects.{effect_of}
 pub data IsMadeBy (world : World) (memory : Memory) (actor : ℕ) (event : Event) : Type 0 where
   runs : IsRunning memory actor → IsMadeBy world memory actor event
   begins :
-      (function address : ℕ) (half : Half) → event ≡ Begin function address half → IsStarted memory actor function address half →
+      (function address : ℕ) (half : Half) → event ≡ Begin function address half →
+      IsStarted memory actor function address half →
       IsMadeBy world memory actor event
   collects : (cycle : ℕ) → event ≡ Collected cycle → actor ≡ world.slots → IsMadeBy world memory actor event
 
@@ -45,4 +46,5 @@ IdsAreOfTheirThread =
     IsAllowed world memory actor (Spawn function address half) (Number id) → thread_id memory (id % 64) ≡ id)
     × ((id result : ℕ) →
     IsAllowed world memory actor (Join id) (Number result) →
-    (thread_id memory (id % 64) ≡ id) × (thread_id (effect_of memory actor (Join id) (Number result)) (id % 64) ≡ id + 64))
+    (thread_id memory (id % 64) ≡ id)
+    × (thread_id (effect_of memory actor (Join id) (Number result)) (id % 64) ≡ id + 64))

@@ -11,7 +11,8 @@ use Rattle.ideal_machine.specs.Words.{is_within}
 
 -- every byte of an access at this address is one of the object's
 abbrev pub has_bytes : Object → (address width : ℕ) → Bool
-has_bytes object address width = nat_le object.address address && is_within object.bytes (address - object.address) width
+has_bytes object address width =
+    nat_le object.address address && is_within object.bytes (address - object.address) width
 
 -- why an object can't be read so, or written
 abbrev pub access_refusal : Object → (address width : ℕ) → Bool → Option Reason

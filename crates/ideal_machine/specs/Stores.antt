@@ -20,7 +20,8 @@ use Rattle.ideal_machine.specs.Effects.{effect_of}
 
 -- each object has a word for each 8 bytes, and one for what is left
 abbrev pub AreWhole : List Object → Type 0
-AreWhole objects = (n : ℕ) (object : Object) → slice_get objects n ≡ Some object → length object.words ≡ payload_words_of object.bytes
+AreWhole objects =
+    (n : ℕ) (object : Object) → slice_get objects n ≡ Some object → length object.words ≡ payload_words_of object.bytes
 
 -- the static objects of a program have their words and halves
 abbrev pub StaticsAreWhole : List PlainStatic → Type 0
@@ -31,7 +32,8 @@ StaticsAreWhole statics =
 -- so it is before the first event, and every event leaves it so
 abbrev pub ObjectsAreWholeFirst : Type 0
 ObjectsAreWholeFirst =
-    (world : World) (statics : List PlainStatic) (main : ℕ) → StaticsAreWhole statics → AreWhole (first_memory world statics main).objects
+    (world : World) (statics : List PlainStatic) (main : ℕ) → StaticsAreWhole statics →
+    AreWhole (first_memory world statics main).objects
 
 abbrev pub ObjectsStayWhole : Type 0
 ObjectsStayWhole =
@@ -70,5 +72,6 @@ StoredHalvesAreFound =
 -- in every other word is found what was found before
 abbrev pub OtherHalvesStay : Type 0
 OtherHalvesStay =
-    (memory : Memory) (object word other_object other_word : ℕ) (half : Kept) → (object ≢ other_object) ⊎ (word ≢ other_word) →
+    (memory : Memory) (object word other_object other_word : ℕ) (half : Kept) →
+    (object ≢ other_object) ⊎ (word ≢ other_word) →
     half_at (with_half memory object word half) other_object other_word ≡ half_at memory other_object other_word

@@ -29,9 +29,11 @@ FoundIsThere objects pairs (FoundPair number) = number < pairs
 -- the halves of all words, of all pairs and of all started threads name objects that are there
 pub record HalvesAreThere (memory : Memory) : Type 0 where
   pub words :
-      (n k : ℕ) (object : Object) (word : Word) → slice_get memory.objects n ≡ Some object → slice_get object.words k ≡ Some word →
+      (n k : ℕ) (object : Object) (word : Word) → slice_get memory.objects n ≡ Some object →
+      slice_get object.words k ≡ Some word →
       FoundIsThere (length memory.objects) (length memory.pairs) word.half
-  pub pairs : (n : ℕ) (pair : Pair) → slice_get memory.pairs n ≡ Some pair → HalfIsThere (length memory.objects) pair.half
+  pub pairs :
+      (n : ℕ) (pair : Pair) → slice_get memory.pairs n ≡ Some pair → HalfIsThere (length memory.objects) pair.half
   pub slots :
       (actor function address : ℕ) (half : Half) → state_of memory actor ≡ Some (Started function address half) →
       HalfIsThere (length memory.objects) half
@@ -49,7 +51,8 @@ StaticHalvesAreThere statics =
 -- so it is before the first event, and every allowed event leaves it so
 abbrev pub HalvesAreThereFirst : Type 0
 HalvesAreThereFirst =
-    (world : World) (statics : List PlainStatic) (main : ℕ) → StaticHalvesAreThere statics → HalvesAreThere (first_memory world statics main)
+    (world : World) (statics : List PlainStatic) (main : ℕ) → StaticHalvesAreThere statics →
+    HalvesAreThere (first_memory world statics main)
 
 abbrev pub HalvesStayThere : Type 0
 HalvesStayThere =

@@ -70,7 +70,8 @@ with_two = after with_one (New 4 1) (Made 1 65552)
 abbrev pub NewObjectsAreNext : Type 0
 NewObjectsAreNext =
     May at_begin (New 16 0) (Made 0 65536) × May at_begin (New 16 0) Absent × MayNot at_begin (New 16 0) (Made 1 65536)
-    × MayNot at_begin (New 16 0) (Made 0 65528) × MayNot at_begin (New 16 0) (Made 0 65540) × MayNot at_begin (New 16 0) Done
+    × MayNot at_begin (New 16 0) (Made 0 65528) × MayNot at_begin (New 16 0) (Made 0 65540)
+    × MayNot at_begin (New 16 0) Done
     × May with_one (New 4 1) (Made 1 65552) × MayNot with_one (New 4 1) (Made 0 65552)
 
 -- it is zero
@@ -112,7 +113,8 @@ AccessesAreInBounds =
 -- there is no check of another width, and none of an object that isn't there
 abbrev pub ChecksAreOfWidths : Type 0
 ChecksAreOfWidths =
-    MayNot with_one (Check (ObjectHalf 0) 65536 3 false) Granted × MayNot with_one (Check (ObjectHalf 0) 65536 0 false) Granted
+    MayNot with_one (Check (ObjectHalf 0) 65536 3 false) Granted
+    × MayNot with_one (Check (ObjectHalf 0) 65536 0 false) Granted
     × MayNot with_one (Check (ObjectHalf 0) 65536 16 false) Granted
     × MayNot with_one (Check (ObjectHalf 1) 65536 1 false) (Refused reason.Bounds)
 

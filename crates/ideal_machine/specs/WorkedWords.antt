@@ -89,7 +89,8 @@ HalvesAreApart =
     × (word_at with_self 0 1 ≡ record { integer = 0; half = Plain (ObjectHalf 0) })
     × (word_at (after with_self (SetInt (bytes_at 8 8) 5) Done) 0 1 ≡ record { integer = 5; half = Plain (ObjectHalf 0) })
     × (word_at (after with_four (SetHalf 0 0 (kept.Plain (Function 2))) Done) 0 0 ≡ record { integer = 289077004400066560; half = Plain (Function 2) })
-    × MayNot with_one (SetHalf 0 2 (kept.Plain Nothing)) Done × MayNot with_one (SetHalf 0 1 (kept.Plain (ObjectHalf 1))) Done
+    × MayNot with_one (SetHalf 0 2 (kept.Plain Nothing)) Done
+    × MayNot with_one (SetHalf 0 1 (kept.Plain (ObjectHalf 1))) Done
 
 -- what was stored is found, or Freed in place of it once its object is freed
 abbrev pub HalvesAreFound : Type 0
@@ -106,9 +107,12 @@ with_pair_stored = after with_one (SetHalf 0 0 (kept.Pair 65540 (ObjectHalf 0)))
 abbrev pub PairsAreFoundByNumber : Type 0
 PairsAreFoundByNumber =
     May with_one (SetHalf 0 0 (kept.Pair 65540 (ObjectHalf 0))) Done
-    × May with_pair_stored (GetHalf 0 0) (Found (Pair 0)) × MayNot with_pair_stored (GetHalf 0 0) (Found (Plain (ObjectHalf 0)))
-    × May with_pair_stored (Open 0) (Opened 65540 (ObjectHalf 0)) × MayNot with_pair_stored (Open 0) (Opened 65536 (ObjectHalf 0))
-    × MayNot with_pair_stored (Open 1) (Opened 65540 (ObjectHalf 0)) × MayNot with_pair_stored (Open 0) (Opened 65540 Freed)
+    × May with_pair_stored (GetHalf 0 0) (Found (Pair 0))
+    × MayNot with_pair_stored (GetHalf 0 0) (Found (Plain (ObjectHalf 0)))
+    × May with_pair_stored (Open 0) (Opened 65540 (ObjectHalf 0))
+    × MayNot with_pair_stored (Open 0) (Opened 65536 (ObjectHalf 0))
+    × MayNot with_pair_stored (Open 1) (Opened 65540 (ObjectHalf 0))
+    × MayNot with_pair_stored (Open 0) (Opened 65540 Freed)
     × May (after with_pair_stored (Void (ObjectHalf 0) 65536) Granted) (Open 0) (Opened 65540 Freed)
     × (half_at (after with_pair_stored (SetHalf 0 1 (kept.Pair 0 Nothing)) Done) 0 1 ≡ Pair 1)
 
@@ -132,7 +136,8 @@ HalvesAreExchanged =
 abbrev pub LocksAreTakenOnce : Type 0
 LocksAreTakenOnce =
     May with_one (Lock 0 8) Done × (after with_one (Lock 0 8) Done ≡ after with_one (SetInt (bytes_at 8 4) 1) Done)
-    × MayNot (after with_one (Lock 0 8) Done) (Lock 0 8) Done × MayNot with_one (Lock 0 16) Done × MayNot with_one (Lock 0 10) Done
+    × MayNot (after with_one (Lock 0 8) Done) (Lock 0 8) Done × MayNot with_one (Lock 0 16) Done
+    × MayNot with_one (Lock 0 10) Done
 
 -- ---- threads
 
@@ -152,4 +157,5 @@ ThreadsBeginWithTheirHalf =
 
 abbrev pub ThreadsBeginWithFreed : Type 0
 ThreadsBeginWithFreed =
-    IsAllowed world with_started_freed 1 (Begin 2 65536 Freed) Done × MayNot with_one (Spawn 2 65536 (ObjectHalf 1)) (Number 1)
+    IsAllowed world with_started_freed 1 (Begin 2 65536 Freed) Done
+    × MayNot with_one (Spawn 2 65536 (ObjectHalf 1)) (Number 1)

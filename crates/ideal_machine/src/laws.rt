@@ -6,17 +6,21 @@ ghost use Rattle.ideal_machine.specs.Apart.{IntegersLeaveHalves, HalvesLeaveInte
 ghost use Rattle.ideal_machine.specs.Apart.{StaticsAreApart, ObjectsStayApart};
 ghost use Rattle.ideal_machine.specs.Inside.{AccessesLieInside, HalvesLieInside};
 ghost use Rattle.ideal_machine.specs.Inside.{ChecksAreExact, FreesAreExact};
-ghost use Rattle.ideal_machine.specs.Makers.{OnlyRunningThreadsAct, MainComesFirst, IdsAreOfTheirThread};
-ghost use Rattle.ideal_machine.specs.There.{HalvesAreThereFirst, HalvesStayThere, AnswersNameObjects};
+ghost use Rattle.ideal_machine.specs.Makers.{OnlyRunningThreadsAct, MainComesFirst};
+ghost use Rattle.ideal_machine.specs.Makers.{IdsAreOfTheirThread};
+ghost use Rattle.ideal_machine.specs.There.{HalvesAreThereFirst, HalvesStayThere};
+ghost use Rattle.ideal_machine.specs.There.{AnswersNameObjects};
 ghost use Rattle.ideal_machine.specs.Stores.{ObjectsAreWholeFirst, ObjectsStayWhole};
 ghost use Rattle.ideal_machine.specs.Stores.{StoredIntegersAreRead, OtherIntegersStay};
 ghost use Rattle.ideal_machine.specs.Stores.{StoredHalvesAreFound, OtherHalvesStay};
 ghost use Rattle.ideal_machine.specs.Fits.{AllowedAnswersAreReplies, AllowedChecksAreReplies};
-ghost use Rattle.ideal_machine.specs.Worked.{MainBegins, OnlyMainBegins, MainBeginsOnce, EndsOnce, ProgramsEnd};
+ghost use Rattle.ideal_machine.specs.Worked.{MainBegins, OnlyMainBegins, MainBeginsOnce};
+ghost use Rattle.ideal_machine.specs.Worked.{EndsOnce, ProgramsEnd};
 ghost use Rattle.ideal_machine.specs.Worked.{NoOutBeforeBegin, OutAfterBegin, NoRefusalWithRoom};
 ghost use Rattle.ideal_machine.specs.Worked.{RefusalWithoutRoom, NoByteWithoutRoom, InputComesOnce};
 ghost use Rattle.ideal_machine.specs.Worked.{SpawnGivesAFreeSlot, NoIdOfAnotherSlot};
-ghost use Rattle.ideal_machine.specs.Worked.{SpawnedThreadBegins, ResultIsTakenOnce, ThreadsEndOnce};
+ghost use Rattle.ideal_machine.specs.Worked.{SpawnedThreadBegins, ResultIsTakenOnce};
+ghost use Rattle.ideal_machine.specs.Worked.{ThreadsEndOnce};
 ghost use Rattle.ideal_machine.specs.Worked.{CellIsWantedByPointers, LocksAreCheckedAgain};
 ghost use Rattle.ideal_machine.specs.Worked.{FreedIsShown, CoveredIsNotNamed};
 ghost use Rattle.ideal_machine.specs.WorkedObjects.{StaticsHaveTheirContents, LiteralsAreReadOnly};
@@ -28,23 +32,26 @@ ghost use Rattle.ideal_machine.specs.WorkedObjects.{SizesAreOfWholeObjects, Name
 ghost use Rattle.ideal_machine.specs.WorkedObjects.{NewObjectsCover, CoveredObjectsAreGone};
 ghost use Rattle.ideal_machine.specs.WorkedObjects.{CyclesEndInOrder};
 ghost use Rattle.ideal_machine.specs.WorkedWords.{IntegersAreStoredInBytes, AccessesAreInside};
-ghost use Rattle.ideal_machine.specs.WorkedWords.{OperationsAreComputedInTheirTypes, OperationsFitTheirAccess};
+ghost use Rattle.ideal_machine.specs.WorkedWords.{OperationsAreComputedInTheirTypes};
+ghost use Rattle.ideal_machine.specs.WorkedWords.{OperationsFitTheirAccess};
 ghost use Rattle.ideal_machine.specs.WorkedWords.{RefusedOperationsChangeNothing};
 ghost use Rattle.ideal_machine.specs.WorkedWords.{ExchangesCompareTheBytes};
 ghost use Rattle.ideal_machine.specs.WorkedWords.{HalvesAreApart, HalvesAreFound};
 ghost use Rattle.ideal_machine.specs.WorkedWords.{PairsAreFoundByNumber, HalvesAreExchanged};
-ghost use Rattle.ideal_machine.specs.WorkedWords.{LocksAreTakenOnce, ThreadsBeginWithTheirHalf, ThreadsBeginWithFreed};
+ghost use Rattle.ideal_machine.specs.WorkedWords.{LocksAreTakenOnce};
+ghost use Rattle.ideal_machine.specs.WorkedWords.{ThreadsBeginWithTheirHalf};
+ghost use Rattle.ideal_machine.specs.WorkedWords.{ThreadsBeginWithFreed};
 
 // ---- of every transition
 
-/// Objects and pairs only grow in number. An object stays where it is, with its size and kind, and a
-/// freed or covered one stays so.
+/// Objects and pairs only grow in number. An object stays where it is, with its size and kind, and
+/// a freed or covered one stays so.
 pub fn events_only_add()
     ensures { EventsOnlyAdd }
 {}
 
-/// What only reads changes nothing; an event on objects leaves the threads and the outside, and one of
-/// threads or of the outside every object.
+/// What only reads changes nothing; an event on objects leaves the threads and the outside, and
+/// one of threads or of the outside every object.
 pub fn events_change_their_region()
     ensures { EventsChangeTheirRegion }
 {}
@@ -60,8 +67,8 @@ pub fn halves_and_integers_are_apart()
     ensures halves { HalvesLeaveIntegers }
 {}
 
-/// Two objects that are neither freed nor covered share no byte: it holds of the static objects, and
-/// every event leaves it so.
+/// Two objects that are neither freed nor covered share no byte: it holds of the static objects,
+/// and every event leaves it so.
 pub fn objects_in_use_share_no_byte()
     ensures first { StaticsAreApart }
     ensures stay { ObjectsStayApart }
@@ -79,8 +86,8 @@ pub fn refusals_are_exact()
     ensures frees { FreesAreExact }
 {}
 
-/// Only a running thread makes events, but for a thread that begins and the collector; and the first
-/// thread that begins is that of `main`.
+/// Only a running thread makes events, but for a thread that begins and the collector; and the
+/// first thread that begins is that of `main`.
 pub fn only_running_threads_act()
     ensures makers { OnlyRunningThreadsAct }
     ensures first { MainComesFirst }

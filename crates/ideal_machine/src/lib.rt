@@ -8,8 +8,8 @@
 //!
 //! Read `specs/Memory.antt` first, then `specs/Allows.antt` and `specs/Effects.antt`: when an event
 //! may get an answer, and what it changes then. `specs/Refusals.antt` has the reasons why a pointer
-//! is refused, and `laws` what holds of all this. `specs/Play.antt` says what a thread is: something
-//! that asks, and goes on by the reply.
+//! is refused, and `laws` what holds of all this. `specs/Play.antt` says what a thread is:
+//! something that asks, and goes on by the reply.
 #![tactic(auto)]
 
 mod event;

@@ -9,7 +9,8 @@ use Rattle.tree_play.specs.Legal.{Entry, History, last_memory, memory_before, Ar
 
 -- each object stays where it is, with its size; a freed one stays freed, and a covered one covered
 abbrev pub ObjectsStay : Type 0
-ObjectsStay = (memory : Memory) (history : History) → HasLaterObjects memory.objects (last_memory memory history).objects
+ObjectsStay =
+    (memory : Memory) (history : History) → HasLaterObjects memory.objects (last_memory memory history).objects
 
 -- so a thread finds each object that is there where the last memory has it
 abbrev pub ObjectsNeverMove : Type 0
