@@ -9,6 +9,12 @@ pub mod Values
 pub mod Queries
 pub mod Play
 pub mod Phrases
+pub mod Retries
+pub mod Addresses
+pub mod IntAccess
+pub mod PointerAccess
+pub mod Lifetimes
+pub mod Threads
 pub mod Reaches
 pub mod Worked
 pub mod Growth
