@@ -1,3 +1,10 @@
 -- Worked plays: what single constructs and short programs ask, in which order.
 pub mod Setting
 pub mod Integers
+pub mod Pointers
+pub mod PairExchanges
+pub mod Addresses
+pub mod Intrinsics
+pub mod Order
+pub mod Statements
+pub mod Copies

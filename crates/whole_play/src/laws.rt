@@ -4,6 +4,28 @@ ghost use Rattle.whole_play.specs.Worked.Integers.{IntRead, IntStore, RefusedRea
 ghost use Rattle.whole_play.specs.Worked.Integers.{NoCellIsNoReason, IntSwap, IntFetch, IntCombine};
 ghost use Rattle.whole_play.specs.Worked.Integers.{AtomicDivision, IntExchange, IntExchangeFails};
 ghost use Rattle.whole_play.specs.Worked.Integers.{BoolExchangeFails};
+ghost use Rattle.whole_play.specs.Worked.Pointers.{PointerRead, PairRead, PointerStore, PairStore};
+ghost use Rattle.whole_play.specs.Worked.Pointers.{PairSwap, PlainSwap, NoCellTraps, TornRead};
+ghost use Rattle.whole_play.specs.Worked.PairExchanges.{ExchangeIsMade, ExchangeIsTriedAgain};
+ghost use Rattle.whole_play.specs.Worked.PairExchanges.{ExchangeFails, ExchangeWantsACell};
+ghost use Rattle.whole_play.specs.Worked.Addresses.{PointersMove, AddressesComeRound};
+ghost use Rattle.whole_play.specs.Worked.Addresses.{FunctionsHaveAddresses, IntegersNameNothing};
+ghost use Rattle.whole_play.specs.Worked.Addresses.{PointersHaveDistances, PointersAreCompared};
+ghost use Rattle.whole_play.specs.Worked.Addresses.{PointersBecomeIntegers};
+ghost use Rattle.whole_play.specs.Worked.Intrinsics.{LockIsTaken, LockIsCheckedAgain};
+ghost use Rattle.whole_play.specs.Worked.Intrinsics.{LockIsRefused, ObjectIsMade, ObjectIsFreed};
+ghost use Rattle.whole_play.specs.Worked.Intrinsics.{SizeIsTold, ByteIsPutOut, ByteIsTakenIn};
+ghost use Rattle.whole_play.specs.Worked.Intrinsics.{ThreadIsStarted, ThreadIsJoined};
+ghost use Rattle.whole_play.specs.Worked.Intrinsics.{ThreadHasAnId, ProgramEnds};
+ghost use Rattle.whole_play.specs.Worked.Order.{PlaceComesFirst, OldValueIsReadLate};
+ghost use Rattle.whole_play.specs.Worked.Order.{LocalIsReadLate, StepGivesTheOldValue};
+ghost use Rattle.whole_play.specs.Worked.Order.{LeftComesFirst, PointerIsLookedAtLast, LogicStops};
+ghost use Rattle.whole_play.specs.Worked.Order.{OneIsChosen, CommaGivesTheRight};
+ghost use Rattle.whole_play.specs.Worked.Statements.{HomeIsMade, ParameterIsMoved};
+ghost use Rattle.whole_play.specs.Worked.Statements.{LocalsAreZeroAgain, HomesStay, LoopGoesRound};
+ghost use Rattle.whole_play.specs.Worked.Statements.{ContinueMakesTheStep, ReturnLeavesTheLoop};
+ghost use Rattle.whole_play.specs.Worked.Statements.{LoopIsCut, SwitchPassesOver, SwitchContinues};
+ghost use Rattle.whole_play.specs.Worked.Copies.{WordsAreCopied, BytesAreCopied};
 
 /// Integers are read and stored by a check and one event.
 pub fn integers_are_checked_and_then_accessed()
@@ -22,4 +44,85 @@ pub fn atomic_integers_make_one_event()
     ensures exchange { IntExchange }
     ensures fails { IntExchangeFails }
     ensures bytes { BoolExchangeFails }
+{}
+
+/// Pointers are read and stored by their two halves, or as a pair.
+pub fn pointers_have_two_halves()
+    ensures read { PointerRead }
+    ensures pair { PairRead }
+    ensures store { PointerStore }
+    ensures atomic_store { PairStore }
+    ensures swap { PairSwap }
+    ensures plain_swap { PlainSwap }
+    ensures no_cell { NoCellTraps }
+    ensures torn { TornRead }
+{}
+
+/// A compare and exchange of a pointer goes by addresses, and is tried again where another pointer
+/// came in between.
+pub fn pointers_are_exchanged_by_address()
+    ensures made { ExchangeIsMade }
+    ensures again { ExchangeIsTriedAgain }
+    ensures fails { ExchangeFails }
+    ensures no_cell { ExchangeWantsACell }
+{}
+
+/// A pointer that moves keeps its capability, and one that is looked at is named.
+pub fn addresses_move_and_are_looked_at()
+    ensures move_on { PointersMove }
+    ensures come_round { AddressesComeRound }
+    ensures functions { FunctionsHaveAddresses }
+    ensures integers { IntegersNameNothing }
+    ensures distances { PointersHaveDistances }
+    ensures comparisons { PointersAreCompared }
+    ensures conversions { PointersBecomeIntegers }
+{}
+
+/// Each intrinsic makes its event, and gives what it is answered.
+pub fn intrinsics_make_their_events()
+    ensures lock { LockIsTaken }
+    ensures lock_again { LockIsCheckedAgain }
+    ensures lock_refused { LockIsRefused }
+    ensures new { ObjectIsMade }
+    ensures free { ObjectIsFreed }
+    ensures size { SizeIsTold }
+    ensures out { ByteIsPutOut }
+    ensures input { ByteIsTakenIn }
+    ensures spawn { ThreadIsStarted }
+    ensures join { ThreadIsJoined }
+    ensures id { ThreadHasAnId }
+    ensures ends { ProgramEnds }
+{}
+
+/// Operands are evaluated from left to right, and the old value of an assignment is read last.
+pub fn evaluation_has_an_order()
+    ensures place { PlaceComesFirst }
+    ensures old_value { OldValueIsReadLate }
+    ensures local { LocalIsReadLate }
+    ensures step { StepGivesTheOldValue }
+    ensures left { LeftComesFirst }
+    ensures pointer { PointerIsLookedAtLast }
+    ensures logic { LogicStops }
+    ensures choice { OneIsChosen }
+    ensures comma { CommaGivesTheRight }
+{}
+
+/// Blocks make homes, loops go round, and switches pass over declarations.
+pub fn statements_have_flows()
+    ensures home { HomeIsMade }
+    ensures parameter { ParameterIsMoved }
+    ensures zero { LocalsAreZeroAgain }
+    ensures homes_stay { HomesStay }
+    ensures round { LoopGoesRound }
+    ensures step { ContinueMakesTheStep }
+    ensures leaves { ReturnLeavesTheLoop }
+    ensures cut { LoopIsCut }
+    ensures passes { SwitchPassesOver }
+    ensures continues { SwitchContinues }
+{}
+
+/// Structures are copied unit by unit.
+pub fn structures_are_copied()
+    ensures words { WordsAreCopied }
+    ensures bytes { BytesAreCopied }
 {}

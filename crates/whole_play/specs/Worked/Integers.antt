@@ -1,11 +1,10 @@
 -- Worked plays of integers in memory: a row of the table of events each.
-use Rattle.std.specs.Prelude.{◌≡◌, ℕ, [], ◌∷◌, true, false}
+use Rattle.std.specs.Prelude.{ℕ, [], ◌∷◌, true, false}
 use Rattle.filc_num.specs.Integers.{bytes_of, convert_of}
 use Rattle.filc_num.specs.declared.integer.IntType.{IntType}
 use Rattle.filc_num.specs.declared.integer.IntType.TheVariants.{Bool as BoolType, I32}
 use Rattle.filc_num.specs.declared.integer.BinOp.TheVariants.{Add, Div}
-use Rattle.filc_num.specs.declared.reason.Reason.{Reason}
-use Rattle.filc_num.specs.declared.reason.Reason.TheVariants.{NoCapability, Bounds, NoCell, Divide}
+use Rattle.filc_num.specs.declared.reason.Reason.TheVariants.{NoCapability, NoCell, Divide}
 use Rattle.c_tree.specs.declared.operation.Operation.TheVariants as op
 use Rattle.c_tree.specs.declared.operation.Access.TheVariants.{Integer}
 use Rattle.ideal_machine.specs.declared.value.Half.TheVariants.{Nothing, Object as ObjectHalf}
@@ -13,7 +12,7 @@ use Rattle.ideal_machine.specs.declared.event.Operation.TheVariants.{Set, Comput
 use Rattle.ideal_machine.specs.declared.event.Event.TheVariants.{Check, GetInt, SetInt, RmwInt, CasInt}
 use Rattle.ideal_machine.specs.declared.event.Answer.TheVariants.{Granted, Refused, Done, Number}
 use Rattle.ideal_machine.specs.Values.{integer}
-use Rattle.whole_play.specs.Worked.Setting.{one, two, three, number, local, static, base, bytes_at, Gave, TrappedAfter, WaitedAt, played}
+use Rattle.whole_play.specs.Worked.Setting.{one, two, three, number, static, bytes_at, Gave, TrappedAfter, WaitedAt, played}
 
 -- an integer read: Check, GetInt; it gives a value of its type
 abbrev pub IntRead : Type 0

@@ -1,9 +1,12 @@
 -- How worked plays are written: trees of one line, a setting, and what a tree is said to play.
-use Rattle.std.specs.Prelude.{◌≡◌, ℕ, ◌+◌, ◌*◌, List, [], ◌∷◌, ◌++◌, Option, Some, None}
+use Rattle.std.specs.Prelude.{◌≡◌, ℕ, ◌+◌, ◌*◌, List, [], ◌∷◌, ◌++◌, None}
 use Rattle.filc_num.specs.declared.reason.Reason.{Reason}
 use Rattle.c_tree.specs.declared.operation.Operation.{Operation}
 use Rattle.c_tree.specs.declared.operation.Operation.TheVariants as op
-use Rattle.c_tree.specs.declared.expr.Expr.{Expr, Apply', Row_of-Expr, end_of-Expr, more_of-Expr}
+use Rattle.c_tree.specs.declared.stmt.LocalDef.{LocalDef}
+use Rattle.c_tree.specs.declared.stmt.LocalKind.{LocalKind}
+use Rattle.c_tree.specs.declared.stmt.Stmt.{Stmt, Run, Block', If', Loop', end_of-Stmt, more_of-Stmt}
+use Rattle.c_tree.specs.declared.expr.Expr.{Expr, Apply', end_of-Expr, more_of-Expr}
 use Rattle.ideal_machine.specs.declared.value.Half.TheVariants.{Object as ObjectHalf}
 use Rattle.ideal_machine.specs.declared.value.Value.{Value}
 use Rattle.ideal_machine.specs.declared.finish.Finish.TheVariants.{Trapped}
@@ -12,10 +15,11 @@ use Rattle.ideal_machine.specs.declared.event.Event.{Event}
 use Rattle.ideal_machine.specs.declared.event.Event.TheVariants.{Trap}
 use Rattle.ideal_machine.specs.declared.event.Answer.{Answer}
 use Rattle.ideal_machine.specs.declared.event.Answer.TheVariants.{Done}
-use Rattle.ideal_machine.specs.Values.{State, integer}
-use Rattle.ideal_machine.specs.Play.{Play, Stops, Waits, Finished, Log, fresh_log, Behaviour, Goes, Ends, run}
-use Rattle.whole_play.specs.Around.{Around, TextPlay}
+use Rattle.ideal_machine.specs.Values.{State}
+use Rattle.ideal_machine.specs.Play.{Stops, Waits, Finished, fresh_log, Goes, Ends, run}
+use Rattle.whole_play.specs.Around.{Around, Flow, TextPlay}
 use Rattle.whole_play.specs.Expressions.{play_expr}
+use Rattle.whole_play.specs.Statements.{play_stmt}
 
 -- ---- trees, each at line 1
 
@@ -66,10 +70,14 @@ into object offset = record { number = base object + offset; half = ObjectHalf o
 
 -- ---- what is played
 
--- a play that gives a value in a state, when these answers are taken and these events made
+-- a play that gives a value in a state, when these answers are taken, these events made, and so many backward jumps and calls
+abbrev pub GaveWith : {A : Type 0} → (jumps calls : ℕ) → TextPlay A → List Answer → List Event → State → A → Type 0
+GaveWith jumps calls play answers events state value =
+    run play (fresh_log answers) ≡ Goes state value (record { answers = []; events = events; jumps = jumps; calls = calls })
+
+-- the same without a jump or a call
 abbrev pub Gave : {A : Type 0} → TextPlay A → List Answer → List Event → State → A → Type 0
-Gave play answers events state value =
-    run play (fresh_log answers) ≡ Goes state value (record { answers = []; events = events; jumps = 0; calls = 0 })
+Gave play answers events state value = GaveWith 0 0 play answers events state value
 
 -- a play that traps at line 1 after these events
 abbrev pub TrappedAfter : {A : Type 0} → TextPlay A → List Answer → List Event → Reason → Type 0
@@ -85,3 +93,39 @@ WaitedAt play answers events answer =
 -- an expression, from these locals
 abbrev pub played : Expr → State → TextPlay Value
 played e state = play_expr around e state
+
+-- ---- statements, at line 1
+
+abbrev pub empty : Stmt
+empty = Block' [] [] end_of-Stmt
+
+abbrev pub block_of_one : List LocalDef → Stmt → Stmt
+block_of_one locals a = Block' locals (tt ∷ []) (more_of-Stmt a end_of-Stmt)
+
+abbrev pub block_of_two : List LocalDef → Stmt → Stmt → Stmt
+block_of_two locals a b = Block' locals (tt ∷ tt ∷ []) (more_of-Stmt a (more_of-Stmt b end_of-Stmt))
+
+abbrev pub block_of_three : List LocalDef → Stmt → Stmt → Stmt → Stmt
+block_of_three locals a b c =
+    Block' locals (tt ∷ tt ∷ tt ∷ []) (more_of-Stmt a (more_of-Stmt b (more_of-Stmt c end_of-Stmt)))
+
+abbrev pub loop_of : (body next : Stmt) → Stmt
+loop_of body next = Loop' 1 _ (more_of-Stmt body end_of-Stmt) _ (more_of-Stmt next end_of-Stmt)
+
+abbrev pub if_of : Expr → (then otherwise : Stmt) → Stmt
+if_of test a b = If' 1 test _ (more_of-Stmt a end_of-Stmt) _ (more_of-Stmt b end_of-Stmt)
+
+-- a local where its block is entered
+abbrev pub local_of : ℕ → LocalKind → LocalDef
+local_of x kind = record { line = 1; local = x; kind = kind }
+
+-- puts out a byte, and sets a local
+abbrev pub put : Expr → Stmt
+put e = Run (one op.Out e)
+
+abbrev pub set : ℕ → Expr → Stmt
+set x e = Run (one (op.SetLocal x) e)
+
+-- a statement, from these locals
+abbrev pub carried_out : Stmt → State → TextPlay Flow
+carried_out s state = play_stmt around s state
