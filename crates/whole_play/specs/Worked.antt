@@ -8,3 +8,7 @@ pub mod Intrinsics
 pub mod Order
 pub mod Statements
 pub mod Copies
+pub mod Printing
+pub mod Programs
+pub mod Lines
+pub mod Depth

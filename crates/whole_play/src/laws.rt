@@ -26,6 +26,12 @@ ghost use Rattle.whole_play.specs.Worked.Statements.{LocalsAreZeroAgain, HomesSt
 ghost use Rattle.whole_play.specs.Worked.Statements.{ContinueMakesTheStep, ReturnLeavesTheLoop};
 ghost use Rattle.whole_play.specs.Worked.Statements.{LoopIsCut, SwitchPassesOver, SwitchContinues};
 ghost use Rattle.whole_play.specs.Worked.Copies.{WordsAreCopied, BytesAreCopied};
+ghost use Rattle.whole_play.specs.Worked.Printing.{PrintIsLocked, PrintIsRefused};
+ghost use Rattle.whole_play.specs.Worked.Programs.{MainExits, ThreadEnds, ArgumentsArePassed};
+ghost use Rattle.whole_play.specs.Worked.Programs.{PointersAreCalled, HomeOutlivesItsCall};
+ghost use Rattle.whole_play.specs.Worked.Lines.{DivisionHasItsLine, LibraryHasTheUsersLine};
+ghost use Rattle.whole_play.specs.Worked.Lines.{LibraryCallsFurther, FirstFunctionHasItsLine};
+ghost use Rattle.whole_play.specs.Worked.Depth.{DepthIsReached, DepthIsPassed};
 
 /// Integers are read and stored by a check and one event.
 pub fn integers_are_checked_and_then_accessed()
@@ -125,4 +131,37 @@ pub fn statements_have_flows()
 pub fn structures_are_copied()
     ensures words { WordsAreCopied }
     ensures bytes { BytesAreCopied }
+{}
+
+/// `printf` holds the lock of the output while it puts out its pieces.
+pub fn printf_locks_the_output()
+    ensures locked { PrintIsLocked }
+    ensures refused { PrintIsRefused }
+{}
+
+/// `main` ends the program, another first function its thread.
+pub fn threads_end_by_their_return()
+    ensures main { MainExits }
+    ensures thread { ThreadEnds }
+{}
+
+/// Functions are called by number and through pointers, and homes outlive their calls.
+pub fn functions_are_called()
+    ensures arguments { ArgumentsArePassed }
+    ensures pointers { PointersAreCalled }
+    ensures home { HomeOutlivesItsCall }
+{}
+
+/// A trap has the line of the innermost text of the user's.
+pub fn traps_have_lines()
+    ensures division { DivisionHasItsLine }
+    ensures library { LibraryHasTheUsersLine }
+    ensures further { LibraryCallsFurther }
+    ensures first { FirstFunctionHasItsLine }
+{}
+
+/// A thread has 1,024 activations at once, and the call of one more traps.
+pub fn calls_have_a_depth()
+    ensures reached { DepthIsReached }
+    ensures passed { DepthIsPassed }
 {}
