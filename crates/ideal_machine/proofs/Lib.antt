@@ -16,3 +16,6 @@ pub mod There
 pub mod Stores
 pub mod Fits
 pub mod Regions
+pub mod Relates
+pub mod Bounds
+pub mod LastEvents

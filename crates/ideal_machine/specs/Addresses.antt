@@ -20,7 +20,7 @@ use Rattle.ideal_machine.specs.Retries.{ask}
 -- ---- pointers to what a program has
 
 -- to the first byte of an object, which lies at its base
-abbrev pub object_pointer : (ℕ → ℕ) → ℕ → Value
+abbrev pub object_pointer : (base : ℕ → ℕ) → ℕ → Value
 object_pointer base n = record { number = base n; half = ObjectHalf n }
 
 -- to a function

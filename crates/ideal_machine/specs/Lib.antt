@@ -16,6 +16,7 @@ pub mod PointerAccess
 pub mod Lifetimes
 pub mod Threads
 pub mod Reaches
+pub mod Endings
 pub mod Worked
 pub mod Growth
 pub mod Regions

@@ -39,7 +39,7 @@ abbrev pub pair_of : Value → Kept
 pair_of v = KeptPair v.number v.half
 
 -- the check before a pointer is stored: there may be no cell for it
-abbrev pub check_store : (ℕ → ℕ) → Value → (line : ℕ) → Phrase Access
+abbrev pub check_store : (base : ℕ → ℕ) → Value → (line : ℕ) → Phrase Access
 check_store base p line = Asks (ChecksForCell p.half p.number) (unless_refused line (access_at base p.half p.number 8))
 
 -- the pointer whose half was found: a pair has both parts, else the address is the word's integer
@@ -56,22 +56,22 @@ read_pointer access = bind (ask (GetHalf access.object (word_of access))) (λ _ 
 -- ---- reads and stores
 
 -- of an atomic pointer too
-abbrev pub load_pointer : (ℕ → ℕ) → Value → (line : ℕ) → Phrase Value
+abbrev pub load_pointer : (base : ℕ → ℕ) → Value → (line : ℕ) → Phrase Value
 load_pointer base p line = bind (check_access base p 8 false line) (λ _ access. read_pointer access)
 
-abbrev pub store_pointer : (ℕ → ℕ) → Value → Value → (line : ℕ) → Phrase (Unit {0})
+abbrev pub store_pointer : (base : ℕ → ℕ) → Value → Value → (line : ℕ) → Phrase (Unit {0})
 store_pointer base p v line =
     bind (check_store base p line) (λ _ access.
     bind (ask (SetInt access v.number)) (λ _ _. ask (SetHalf access.object (word_of access) (KeptPlain v.half))))
 
 -- ---- atomic pointers
 
-abbrev pub store_pair : (ℕ → ℕ) → Value → Value → (line : ℕ) → Phrase (Unit {0})
+abbrev pub store_pair : (base : ℕ → ℕ) → Value → Value → (line : ℕ) → Phrase (Unit {0})
 store_pair base p v line =
     bind (check_store base p line) (λ _ access. ask (SetHalf access.object (word_of access) (pair_of v)))
 
 -- stores a pointer; gives the old one
-abbrev pub swap_pair : (ℕ → ℕ) → Value → Value → (line : ℕ) → Phrase Value
+abbrev pub swap_pair : (base : ℕ → ℕ) → Value → Value → (line : ℕ) → Phrase Value
 swap_pair base p v line =
     bind (check_store base p line) (λ _ access.
     bind (ask (CasHalf access.object (word_of access) Any (pair_of v))) (λ _ found. pointer_found access found))
@@ -112,6 +112,6 @@ exchange_round access expected desired =
     else Gives tt (Some (record { found = found; is_made = false })))))
 
 -- at most so many rounds
-abbrev pub exchange_pair : (ℕ → ℕ) → (rounds : ℕ) → (p expected desired : Value) → (line : ℕ) → Phrase PairExchange
+abbrev pub exchange_pair : (base : ℕ → ℕ) → (rounds : ℕ) → (p expected desired : Value) → (line : ℕ) → Phrase PairExchange
 exchange_pair base rounds p expected desired line =
     bind (check_store base p line) (λ _ access. retry rounds (exchange_round access expected desired))

@@ -41,7 +41,7 @@ abbrev pub lock_round : Value → Access → (line : ℕ) → Phrase (Option (Un
 lock_round p access line = Asks (Locks p.half p.number access.object access.offset) (lock_result line)
 
 -- at most so many rounds
-abbrev pub take_lock : (ℕ → ℕ) → (rounds : ℕ) → Value → (line : ℕ) → Phrase (Unit {0})
+abbrev pub take_lock : (base : ℕ → ℕ) → (rounds : ℕ) → Value → (line : ℕ) → Phrase (Unit {0})
 take_lock base rounds p line = bind (check_access base p 4 true line) (λ _ access. retry rounds (lock_round p access line))
 
 -- ---- functions through pointers

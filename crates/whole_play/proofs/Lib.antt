@@ -1,1 +1,5 @@
+pub mod Related
+pub mod More
+pub mod Far
+mod EndsLast
 mod Depth

@@ -49,18 +49,18 @@ apply around (op.UpdateLocal local change) line (v ∷ []) state =
 apply around (op.StepLocal local change) line (v ∷ []) state =
     bind (new_value change (value_at state local) v line) (λ _ new. Gives (put_at state local new) (value_at state local))
 -- memory; a compound assignment reads and stores
-apply around (op.Load access) line (p ∷ []) state = in_state state (load around access p line)
-apply around (op.Store access) line (p ∷ v ∷ []) state = then_give state (store around access p v line) v
+apply around (op.Load access) line (p ∷ []) state = in_state state (load around.base access p line)
+apply around (op.Store access) line (p ∷ v ∷ []) state = then_give state (store around.base access p v line) v
 apply around (op.Update access change) line (p ∷ v ∷ []) state =
-    bind (load around access p line) (λ _ old.
-    bind (new_value change old v line) (λ _ new. then_give state (store around access p new line) new))
+    bind (load around.base access p line) (λ _ old.
+    bind (new_value change old v line) (λ _ new. then_give state (store around.base access p new line) new))
 apply around (op.Step access change) line (p ∷ v ∷ []) state =
-    bind (load around access p line) (λ _ old.
-    bind (new_value change old v line) (λ _ new. then_give state (store around access p new line) old))
-apply around (op.Copy unit n) line (p ∷ q ∷ []) state = then_give state (copy_units around unit n p q line) p
+    bind (load around.base access p line) (λ _ old.
+    bind (new_value change old v line) (λ _ new. then_give state (store around.base access p new line) old))
+apply around (op.Copy unit n) line (p ∷ q ∷ []) state = then_give state (copy_units around.base unit n p q line) p
 -- atomic operations; an operator without a result traps after its event, which has changed nothing then
-apply around (op.Swap access) line (p ∷ v ∷ []) state = in_state state (swap around access p v line)
-apply around (op.Cas access) line (p ∷ e ∷ v ∷ []) state = in_state state (compare_exchange around access p e v line)
+apply around (op.Swap access) line (p ∷ v ∷ []) state = in_state state (swap around.base access p v line)
+apply around (op.Cas access) line (p ∷ e ∷ v ∷ []) state = in_state state (compare_exchange around.base around.rounds access p e v line)
 apply around (op.Fetch ty operator computed) line (p ∷ v ∷ []) state =
     in_state state (update_int around.base ty p (Compute operator ty computed) v line)
 apply around (op.Combine ty operator computed) line (p ∷ v ∷ []) state =

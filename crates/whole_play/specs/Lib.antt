@@ -5,4 +5,7 @@ pub mod Printing
 pub mod Expressions
 pub mod Statements
 pub mod WholePlay
+pub mod MoreRounds
+pub mod MoreAnswers
+pub mod EndsLast
 pub mod Worked

@@ -20,50 +20,49 @@ use Rattle.ideal_machine.specs.Phrases.{Phrase, arithmetic}
 use Rattle.ideal_machine.specs.Addresses.{advance, retreat}
 use Rattle.ideal_machine.specs.IntAccess.{load_int, store_int, update_int, exchange_int, is_exchanged}
 use Rattle.ideal_machine.specs.PointerAccess.{load_pointer, store_pointer, store_pair, swap_pair, PairExchange, exchange_pair}
-use Rattle.whole_play.specs.Around.{Around}
 
 -- ---- reads, stores and exchanges
 
-abbrev pub load : Around → Access → Value → (line : ℕ) → Phrase Value
-load around (Integer ty) p line = load_int around.base ty p line
-load around Pointer p line = load_pointer around.base p line
-load around Box p line = load_pointer around.base p line
+abbrev pub load : (base : ℕ → ℕ) → Access → Value → (line : ℕ) → Phrase Value
+load base (Integer ty) p line = load_int base ty p line
+load base Pointer p line = load_pointer base p line
+load base Box p line = load_pointer base p line
 
-abbrev pub store : Around → Access → Value → Value → (line : ℕ) → Phrase (Unit {0})
-store around (Integer ty) p v line = store_int around.base ty p v line
-store around Pointer p v line = store_pointer around.base p v line
-store around Box p v line = store_pair around.base p v line
+abbrev pub store : (base : ℕ → ℕ) → Access → Value → Value → (line : ℕ) → Phrase (Unit {0})
+store base (Integer ty) p v line = store_int base ty p v line
+store base Pointer p v line = store_pointer base p v line
+store base Box p v line = store_pair base p v line
 
 -- an atomic exchange gives the old value
-abbrev pub swap : Around → Access → Value → Value → (line : ℕ) → Phrase Value
-swap around (Integer ty) p v line = update_int around.base ty p Set v line
-swap around Pointer p v line = swap_pair around.base p v line
-swap around Box p v line = swap_pair around.base p v line
+abbrev pub swap : (base : ℕ → ℕ) → Access → Value → Value → (line : ℕ) → Phrase Value
+swap base (Integer ty) p v line = update_int base ty p Set v line
+swap base Pointer p v line = swap_pair base p v line
+swap base Box p v line = swap_pair base p v line
 
 -- ---- compare and exchange: the object at p, and what is expected at e
 
 -- 1 where the exchange was made; else what was found is stored over what was expected, and it gives 0
-abbrev pub after_int : Around → IntType → (e expected : Value) → (line n : ℕ) → Phrase Value
-after_int around ty e expected line n =
+abbrev pub after_int : (base : ℕ → ℕ) → IntType → (e expected : Value) → (line n : ℕ) → Phrase Value
+after_int base ty e expected line n =
     if is_exchanged ty n expected then Gives tt (integer 1)
-    else bind (store_int around.base ty e (integer (convert_of n ty)) line) (λ _ _. Gives tt (integer 0))
+    else bind (store_int base ty e (integer (convert_of n ty)) line) (λ _ _. Gives tt (integer 0))
 
-abbrev pub after_pair : Around → (e : Value) → (line : ℕ) → PairExchange → Phrase Value
-after_pair around e line exchange =
+abbrev pub after_pair : (base : ℕ → ℕ) → (e : Value) → (line : ℕ) → PairExchange → Phrase Value
+after_pair base e line exchange =
     if exchange.is_made then Gives tt (integer 1)
-    else bind (store_pointer around.base e exchange.found line) (λ _ _. Gives tt (integer 0))
+    else bind (store_pointer base e exchange.found line) (λ _ _. Gives tt (integer 0))
 
-abbrev pub compare_pair : Around → (p e desired : Value) → (line : ℕ) → Phrase Value
-compare_pair around p e desired line =
-    bind (load_pointer around.base e line) (λ _ expected.
-    bind (exchange_pair around.base around.rounds p expected desired line) (λ _ exchange. after_pair around e line exchange))
+abbrev pub compare_pair : (base : ℕ → ℕ) → (rounds : ℕ) → (p e desired : Value) → (line : ℕ) → Phrase Value
+compare_pair base rounds p e desired line =
+    bind (load_pointer base e line) (λ _ expected.
+    bind (exchange_pair base rounds p expected desired line) (λ _ exchange. after_pair base e line exchange))
 
-abbrev pub compare_exchange : Around → Access → (p e desired : Value) → (line : ℕ) → Phrase Value
-compare_exchange around (Integer ty) p e desired line =
-    bind (load_int around.base ty e line) (λ _ expected.
-    bind (exchange_int around.base ty p expected desired line) (λ _ n. after_int around ty e expected line n))
-compare_exchange around Pointer p e desired line = compare_pair around p e desired line
-compare_exchange around Box p e desired line = compare_pair around p e desired line
+abbrev pub compare_exchange : (base : ℕ → ℕ) → (rounds : ℕ) → Access → (p e desired : Value) → (line : ℕ) → Phrase Value
+compare_exchange base rounds (Integer ty) p e desired line =
+    bind (load_int base ty e line) (λ _ expected.
+    bind (exchange_int base ty p expected desired line) (λ _ n. after_int base ty e expected line n))
+compare_exchange base rounds Pointer p e desired line = compare_pair base rounds p e desired line
+compare_exchange base rounds Box p e desired line = compare_pair base rounds p e desired line
 
 -- ---- new values of old ones
 
@@ -94,9 +93,9 @@ unit_bytes FourBytes = 4
 unit_bytes PointerUnit = 8
 
 -- so many units from q to p, ascending, each read and then stored; code jumps back after each
-abbrev pub copy_units : Around → CopyUnit → ℕ → (p q : Value) → (line : ℕ) → Phrase (Unit {0})
-copy_units around unit zero p q line = Gives tt tt
-copy_units around unit (suc n) p q line =
-    bind (load around (unit_access unit) q line) (λ _ v.
-    bind (store around (unit_access unit) p v line) (λ _ _.
-    Jump (copy_units around unit n (advance p (unit_bytes unit)) (advance q (unit_bytes unit)) line)))
+abbrev pub copy_units : (base : ℕ → ℕ) → CopyUnit → ℕ → (p q : Value) → (line : ℕ) → Phrase (Unit {0})
+copy_units base unit zero p q line = Gives tt tt
+copy_units base unit (suc n) p q line =
+    bind (load base (unit_access unit) q line) (λ _ v.
+    bind (store base (unit_access unit) p v line) (λ _ _.
+    Jump (copy_units base unit n (advance p (unit_bytes unit)) (advance q (unit_bytes unit)) line)))

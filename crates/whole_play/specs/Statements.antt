@@ -53,7 +53,7 @@ abbrev pub first_value : Around → LocalKind → (line : ℕ) → Value → Phr
 first_value around Zero line v = Gives tt zero_value
 first_value around (Home bytes) line v = make_home bytes line
 first_value around (Moved bytes access) line v =
-    bind (make_home bytes line) (λ _ home. bind (store around access home v line) (λ _ _. Gives tt home))
+    bind (make_home bytes line) (λ _ home. bind (store around.base access home v line) (λ _ _. Gives tt home))
 
 -- the locals of a block, in their order; so also those whose declarations a switch passes over
 abbrev pub enter_block : Around → List LocalDef → State → TextPlay (Unit {0})

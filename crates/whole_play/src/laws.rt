@@ -1,5 +1,8 @@
 //! Laws of the play, and worked plays.
 
+ghost use Rattle.whole_play.specs.MoreRounds.{MoreRounds};
+ghost use Rattle.whole_play.specs.MoreAnswers.{MoreAnswers};
+ghost use Rattle.whole_play.specs.EndsLast.{NothingFollowsAnEnd};
 ghost use Rattle.whole_play.specs.Worked.Integers.{IntRead, IntStore, RefusedRead};
 ghost use Rattle.whole_play.specs.Worked.Integers.{NoCellIsNoReason, IntSwap, IntFetch, IntCombine};
 ghost use Rattle.whole_play.specs.Worked.Integers.{AtomicDivision, IntExchange, IntExchangeFails};
@@ -17,7 +20,7 @@ ghost use Rattle.whole_play.specs.Worked.Intrinsics.{LockIsRefused, ObjectIsMade
 ghost use Rattle.whole_play.specs.Worked.Intrinsics.{SizeIsTold, ByteIsPutOut, ByteIsTakenIn};
 ghost use Rattle.whole_play.specs.Worked.Intrinsics.{ThreadIsStarted, ThreadIsJoined};
 ghost use Rattle.whole_play.specs.Worked.Intrinsics.{ThreadHasAnId, ProgramEnds};
-ghost use Rattle.whole_play.specs.Worked.Order.{PlaceComesFirst, OldValueIsReadLate};
+ghost use Rattle.whole_play.specs.Worked.Order.{LvalueComesFirst, OldValueIsReadLate};
 ghost use Rattle.whole_play.specs.Worked.Order.{LocalIsReadLate, StepGivesTheOldValue};
 ghost use Rattle.whole_play.specs.Worked.Order.{LeftComesFirst, PointerIsLookedAtLast, LogicStops};
 ghost use Rattle.whole_play.specs.Worked.Order.{OneIsChosen, CommaGivesTheRight};
@@ -32,6 +35,21 @@ ghost use Rattle.whole_play.specs.Worked.Programs.{PointersAreCalled, HomeOutliv
 ghost use Rattle.whole_play.specs.Worked.Lines.{DivisionHasItsLine, LibraryHasTheUsersLine};
 ghost use Rattle.whole_play.specs.Worked.Lines.{LibraryCallsFurther, FirstFunctionHasItsLine};
 ghost use Rattle.whole_play.specs.Worked.Depth.{DepthIsReached, DepthIsPassed};
+
+/// With a greater bound on rounds a thread that was cut goes on, and any other does the same.
+pub fn more_rounds_only_add()
+    ensures { MoreRounds }
+{}
+
+/// With more answers a thread does all that it did, or goes on where it waited.
+pub fn more_answers_only_add()
+    ensures { MoreAnswers }
+{}
+
+/// A thread makes nothing after it ended itself or the program.
+pub fn nothing_follows_an_end()
+    ensures { NothingFollowsAnEnd }
+{}
 
 /// Integers are read and stored by a check and one event.
 pub fn integers_are_checked_and_then_accessed()
@@ -102,7 +120,7 @@ pub fn intrinsics_make_their_events()
 
 /// Operands are evaluated from left to right, and the old value of an assignment is read last.
 pub fn evaluation_has_an_order()
-    ensures place { PlaceComesFirst }
+    ensures lvalue { LvalueComesFirst }
     ensures old_value { OldValueIsReadLate }
     ensures local { LocalIsReadLate }
     ensures step { StepGivesTheOldValue }

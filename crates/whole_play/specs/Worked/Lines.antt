@@ -15,7 +15,7 @@ use Rattle.ideal_machine.specs.declared.event.Event.TheVariants.{Check, Trap}
 use Rattle.ideal_machine.specs.declared.event.Answer.TheVariants.{Refused, Done}
 use Rattle.ideal_machine.specs.Values.{integer}
 use Rattle.whole_play.specs.Worked.Setting.{one, number, local, empty, block_of_one, local_of, set}
-use Rattle.whole_play.specs.Worked.Programs.{function_of, thread_of, EndedAfter, main_of, returns}
+use Rattle.whole_play.specs.Worked.Programs.{function_of, thread_of, EndsWith, main_of, returns}
 
 -- an operation on one or two operands, at a line
 abbrev pub one_at : (line : ℕ) → Operation → Expr → Expr
@@ -27,7 +27,7 @@ two_at line o a b = Apply' line o (tt ∷ tt ∷ []) (more_of-Expr a (more_of-Ex
 -- `int main(void){int x=0;` and on line 2 `x=5/x;`: a division by 0, at its line
 abbrev pub DivisionHasItsLine : Type 0
 DivisionHasItsLine =
-    EndedAfter
+    EndsWith
     (thread_of (main_of (block_of_one (local_of 0 Zero ∷ []) (set 0 (two_at 2 (op.Binary Div I32) (number 5) (local 0)))) ∷ []) 0 (integer 0) (Done ∷ []))
     (Trap Divide 2 ∷ []) 0 (Trapped Divide 2)
 
@@ -38,11 +38,11 @@ reads = one (op.Load (Integer I8)) (local 0)
 -- in the user's text it traps there; in a header's text at the line of the user's call, which is 3
 abbrev pub LibraryHasTheUsersLine : Type 0
 LibraryHasTheUsersLine =
-    EndedAfter
+    EndsWith
     (thread_of (main_of (returns (one_at 3 (op.Call 1) (number 0))) ∷ function_of false 2 1 (returns reads) ∷ []) 0 (integer 0)
     (Refused NoCapability ∷ Done ∷ []))
     (Check Nothing 0 1 false ∷ Trap NoCapability 1 ∷ []) 1 (Trapped NoCapability 1)
-    × EndedAfter
+    × EndsWith
     (thread_of (main_of (returns (one_at 3 (op.Call 1) (number 0))) ∷ function_of true 2 1 (returns reads) ∷ []) 0 (integer 0)
     (Refused NoCapability ∷ Done ∷ []))
     (Check Nothing 0 1 false ∷ Trap NoCapability 3 ∷ []) 1 (Trapped NoCapability 3)
@@ -53,7 +53,7 @@ calls_further = function_of true 2 1 (returns (one_at 2 (op.Call 2) (local 0)))
 
 abbrev pub LibraryCallsFurther : Type 0
 LibraryCallsFurther =
-    EndedAfter
+    EndsWith
     (thread_of (main_of (returns (one_at 3 (op.Call 1) (number 0))) ∷ calls_further ∷ function_of true 2 1 (returns reads) ∷ []) 0 (integer 0)
     (Refused NoCapability ∷ Done ∷ []))
     (Check Nothing 0 1 false ∷ Trap NoCapability 3 ∷ []) 2 (Trapped NoCapability 3)
@@ -61,5 +61,5 @@ LibraryCallsFurther =
 -- a thread's first function has no user's call: the text of a header has the line of its `#include`
 abbrev pub FirstFunctionHasItsLine : Type 0
 FirstFunctionHasItsLine =
-    EndedAfter (thread_of (main_of empty ∷ function_of true 0 1 (returns reads) ∷ []) 1 (integer 0) (Refused NoCapability ∷ Done ∷ []))
+    EndsWith (thread_of (main_of empty ∷ function_of true 0 1 (returns reads) ∷ []) 1 (integer 0) (Refused NoCapability ∷ Done ∷ []))
     (Check Nothing 0 1 false ∷ Trap NoCapability 1 ∷ []) 0 (Trapped NoCapability 1)

@@ -15,20 +15,20 @@ use Rattle.ideal_machine.specs.declared.event.Answer.{Answer}
 use Rattle.ideal_machine.specs.declared.event.Answer.TheVariants.{Granted, Refused, Done, Number, Found, Opened}
 use Rattle.ideal_machine.specs.Values.{State, integer}
 use Rattle.whole_play.specs.Around.{TextPlay}
-use Rattle.whole_play.specs.Worked.Setting.{three, local, static, bytes_at, into, Gave, GaveWith, TrappedAfter, played}
+use Rattle.whole_play.specs.Worked.Setting.{three, local, static, bytes_at, into, Yields, YieldsWith, Traps, expr_play}
 
 abbrev pub locals : State
 locals = into 2 0 ∷ []
 
 abbrev pub exchange : TextPlay Value
-exchange = played (three (op.Cas Box) (static 0) (static 1) (local 0)) locals
+exchange = expr_play (three (op.Cas Box) (static 0) (static 1) (local 0)) locals
 
 -- the expected pointer is read first: it is one to object 1
-abbrev pub expected : List Answer
-expected = Granted ∷ Found (FoundPlain (ObjectHalf 1)) ∷ Number 66560 ∷ []
+abbrev pub expected_answers : List Answer
+expected_answers = Granted ∷ Found (FoundPlain (ObjectHalf 1)) ∷ Number 66560 ∷ []
 
-abbrev pub expecting : List Event
-expecting = Check (ObjectHalf 1) 66560 8 false ∷ GetHalf 1 0 ∷ GetInt (bytes_at 1 0 8) ∷ []
+abbrev pub expected_events : List Event
+expected_events = Check (ObjectHalf 1) 66560 8 false ∷ GetHalf 1 0 ∷ GetInt (bytes_at 1 0 8) ∷ []
 
 abbrev pub name_of_expected : Event
 name_of_expected = Name (ObjectHalf 1) 66560
@@ -40,27 +40,27 @@ replaces_pair = CasHalf 0 0 (SeenFound (FoundPair 4)) (KeptPair 67584 (ObjectHal
 -- a pair with the expected address is found and replaced: 1
 abbrev pub ExchangeIsMade : Type 0
 ExchangeIsMade =
-    Gave exchange (expected ++ Granted ∷ Found (FoundPair 4) ∷ Opened 66560 Freed ∷ Done ∷ Found (FoundPair 4) ∷ [])
-    (expecting ++ Check (ObjectHalf 0) 65536 8 true ∷ GetHalf 0 0 ∷ Open 4 ∷ name_of_expected ∷ replaces_pair ∷ []) locals (integer 1)
+    Yields exchange (expected_answers ++ Granted ∷ Found (FoundPair 4) ∷ Opened 66560 Freed ∷ Done ∷ Found (FoundPair 4) ∷ [])
+    (expected_events ++ Check (ObjectHalf 0) 65536 8 true ∷ GetHalf 0 0 ∷ Open 4 ∷ name_of_expected ∷ replaces_pair ∷ []) locals (integer 1)
 
 -- another pair was there by then: once more from GetHalf, without a check, and the jump is counted
 abbrev pub ExchangeIsTriedAgain : Type 0
 ExchangeIsTriedAgain =
-    GaveWith 1 0 exchange
-    (expected ++ Granted ∷ Found (FoundPair 4) ∷ Opened 66560 Freed ∷ Done ∷ Found (FoundPair 5)
+    YieldsWith 1 0 exchange
+    (expected_answers ++ Granted ∷ Found (FoundPair 4) ∷ Opened 66560 Freed ∷ Done ∷ Found (FoundPair 5)
     ∷ Found (FoundPlain Nothing) ∷ Number 66560 ∷ Done ∷ Found (FoundPlain Nothing) ∷ [])
-    (expecting ++ Check (ObjectHalf 0) 65536 8 true ∷ GetHalf 0 0 ∷ Open 4 ∷ name_of_expected ∷ replaces_pair
+    (expected_events ++ Check (ObjectHalf 0) 65536 8 true ∷ GetHalf 0 0 ∷ Open 4 ∷ name_of_expected ∷ replaces_pair
     ∷ GetHalf 0 0 ∷ GetInt (bytes_at 0 0 8) ∷ name_of_expected
     ∷ CasHalf 0 0 (SeenFound (FoundPlain Nothing)) (KeptPair 67584 (ObjectHalf 2)) ∷ []) locals (integer 1)
 
 -- another address is found: it is stored over the expected pointer by a plain store, and the exchange gives 0
 abbrev pub ExchangeFails : Type 0
 ExchangeFails =
-    Gave exchange (expected ++ Granted ∷ Found (FoundPair 4) ∷ Opened 8 Nothing ∷ Done ∷ Granted ∷ Done ∷ Done ∷ [])
-    (expecting ++ Check (ObjectHalf 0) 65536 8 true ∷ GetHalf 0 0 ∷ Open 4 ∷ name_of_expected
+    Yields exchange (expected_answers ++ Granted ∷ Found (FoundPair 4) ∷ Opened 8 Nothing ∷ Done ∷ Granted ∷ Done ∷ Done ∷ [])
+    (expected_events ++ Check (ObjectHalf 0) 65536 8 true ∷ GetHalf 0 0 ∷ Open 4 ∷ name_of_expected
     ∷ Check (ObjectHalf 1) 66560 8 true ∷ SetInt (bytes_at 1 0 8) 8 ∷ SetHalf 1 0 (KeptPlain Nothing) ∷ []) locals (integer 0)
 
 -- there may be no cell
 abbrev pub ExchangeWantsACell : Type 0
 ExchangeWantsACell =
-    TrappedAfter exchange (expected ++ Refused NoCell ∷ []) (expecting ++ Check (ObjectHalf 0) 65536 8 true ∷ []) NoCell
+    Traps exchange (expected_answers ++ Refused NoCell ∷ []) (expected_events ++ Check (ObjectHalf 0) 65536 8 true ∷ []) NoCell

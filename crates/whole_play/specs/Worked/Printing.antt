@@ -15,7 +15,7 @@ use Rattle.ideal_machine.specs.Play.{Gives, bind}
 use Rattle.ideal_machine.specs.Phrases.{Phrase, put_out}
 use Rattle.whole_play.specs.Around.{TextPlay}
 use Rattle.whole_play.specs.Expressions.{play_expr}
-use Rattle.whole_play.specs.Worked.Setting.{leaf, static, bytes_at, around, GaveWith, TrappedAfter}
+use Rattle.whole_play.specs.Worked.Setting.{leaf, static, bytes_at, around, YieldsWith, Traps}
 
 abbrev pub three_bytes : (function line : ℕ) → List Value → Phrase Value
 three_bytes f line values =
@@ -23,15 +23,15 @@ three_bytes f line values =
     bind (put_out (value_at values 0) line) (λ _ _. bind (put_out (value_at values 1) line) (λ _ _. Gives tt (integer 3))))
 
 -- these pieces of one argument, which is taken in
-abbrev pub printed : List Piece → TextPlay Value
-printed pieces =
+abbrev pub print_play : List Piece → TextPlay Value
+print_play pieces =
     play_expr (record around { call = three_bytes })
     (Print' 1 (tt ∷ tt ∷ []) (more_of-Expr (static 0) (more_of-Expr (leaf op.Input) end_of-Expr)) pieces) []
 
 -- the argument, the lock, the pieces in their order, and the lock's release; it gives how many bytes there were
 abbrev pub PrintIsLocked : Type 0
 PrintIsLocked =
-    GaveWith 0 2 (printed (Byte 97 ∷ OutPiece 1 ∷ Put 70 1 (Some 16) ∷ Put 71 1 None ∷ []))
+    YieldsWith 0 2 (print_play (Byte 97 ∷ OutPiece 1 ∷ Put 70 1 (Some 16) ∷ Put 71 1 None ∷ []))
     (Number 65 ∷ Granted ∷ Done ∷ Done ∷ Done ∷ Done ∷ Done ∷ Done ∷ Done ∷ Done ∷ Done ∷ Granted ∷ Done ∷ [])
     (Input ∷ Check (ObjectHalf 0) 65536 4 true ∷ Lock 0 0
     ∷ Out 97 ∷ Out 65 ∷ Out 70 ∷ Out 65 ∷ Out 16 ∷ Out 71 ∷ Out 65 ∷ Out 0
@@ -40,5 +40,5 @@ PrintIsLocked =
 -- a byte for which there is no room is a trap
 abbrev pub PrintIsRefused : Type 0
 PrintIsRefused =
-    TrappedAfter (printed (Byte 97 ∷ [])) (Number 65 ∷ Granted ∷ Done ∷ Refused OutputLimit ∷ [])
+    Traps (print_play (Byte 97 ∷ [])) (Number 65 ∷ Granted ∷ Done ∷ Refused OutputLimit ∷ [])
     (Input ∷ Check (ObjectHalf 0) 65536 4 true ∷ Lock 0 0 ∷ Out 97 ∷ []) OutputLimit

@@ -39,8 +39,8 @@ thread_of functions f argument answers =
     play 3 (program_of functions) (record { id = 0; function = f; argument = argument; base = base }) answers
 
 -- the program ended so, after these events and so many calls
-abbrev pub EndedAfter : Behaviour (Unit {0}) ℕ → List Event → (calls : ℕ) → Finish → Type 0
-EndedAfter behaviour events calls finish =
+abbrev pub EndsWith : Behaviour (Unit {0}) ℕ → List Event → (calls : ℕ) → Finish → Type 0
+EndsWith behaviour events calls finish =
     behaviour ≡ Ends (Finished finish) (record { answers = []; events = events; jumps = 0; calls = calls })
 
 abbrev pub main_of : Stmt → FunctionDef
@@ -54,9 +54,9 @@ returns e = Return 1 (Some e)
 -- what `main` returns is the program's status, by its low byte; where control reaches its end that is 0
 abbrev pub MainExits : Type 0
 MainExits =
-    EndedAfter (thread_of (main_of (returns (number 42)) ∷ []) 0 (integer 0) (Done ∷ [])) (Exit 42 ∷ []) 0 (Exited 42)
-    × EndedAfter (thread_of (main_of (returns (number 18446744073709551615)) ∷ []) 0 (integer 0) (Done ∷ [])) (Exit 255 ∷ []) 0 (Exited 255)
-    × EndedAfter (thread_of (main_of empty ∷ []) 0 (integer 0) (Done ∷ [])) (Exit 0 ∷ []) 0 (Exited 0)
+    EndsWith (thread_of (main_of (returns (number 42)) ∷ []) 0 (integer 0) (Done ∷ [])) (Exit 42 ∷ []) 0 (Exited 42)
+    × EndsWith (thread_of (main_of (returns (number 18446744073709551615)) ∷ []) 0 (integer 0) (Done ∷ [])) (Exit 255 ∷ []) 0 (Exited 255)
+    × EndsWith (thread_of (main_of empty ∷ []) 0 (integer 0) (Done ∷ [])) (Exit 0 ∷ []) 0 (Exited 0)
 
 -- what another thread's first function returns is the thread's result: here its argument
 abbrev pub ThreadEnds : Type 0
@@ -68,24 +68,24 @@ ThreadEnds =
 -- ---- calls
 
 -- arguments are the callee's first locals, and its others are 0; the caller's locals stay
-abbrev pub adding : Stmt
-adding = block_of_two [] (put (local 1)) (block_of_two [] (put (local 2)) (returns (local 0)))
+abbrev pub shows_locals : Stmt
+shows_locals = block_of_two [] (put (local 1)) (block_of_two [] (put (local 2)) (returns (local 0)))
 
 abbrev pub ArgumentsArePassed : Type 0
 ArgumentsArePassed =
-    EndedAfter (thread_of (main_of (returns (two (op.Call 1) (number 7) (number 8))) ∷ function_of false 2 2 adding ∷ []) 0 (integer 0) (Done ∷ Done ∷ Done ∷ []))
+    EndsWith (thread_of (main_of (returns (two (op.Call 1) (number 7) (number 8))) ∷ function_of false 2 2 shows_locals ∷ []) 0 (integer 0) (Done ∷ Done ∷ Done ∷ []))
     (Out 8 ∷ Out 0 ∷ Exit 7 ∷ []) 1 (Exited 7)
 
 -- a call through a pointer: its function's type has to be the call's
-abbrev pub calling_through : Expr → List FunctionDef
-calling_through pointer = main_of (returns (one (op.CallPointer 1) pointer)) ∷ function_of false 2 0 empty ∷ function_of false 1 0 (returns (number 5)) ∷ []
+abbrev pub call_through : Expr → List FunctionDef
+call_through pointer = main_of (returns (one (op.CallPointer 1) pointer)) ∷ function_of false 2 0 empty ∷ function_of false 1 0 (returns (number 5)) ∷ []
 
 abbrev pub PointersAreCalled : Type 0
 PointersAreCalled =
-    EndedAfter (thread_of (calling_through (leaf (op.Function 2))) 0 (integer 0) (Done ∷ [])) (Exit 5 ∷ []) 1 (Exited 5)
-    × EndedAfter (thread_of (calling_through (leaf (op.Function 1))) 0 (integer 0) (Done ∷ [])) (Trap FunctionType 1 ∷ []) 0 (Trapped FunctionType 1)
-    × EndedAfter (thread_of (calling_through (static 0)) 0 (integer 0) (Done ∷ [])) (Trap NotFunction 1 ∷ []) 0 (Trapped NotFunction 1)
-    × EndedAfter (thread_of (calling_through (number 0)) 0 (integer 0) (Done ∷ [])) (Trap NotFunction 1 ∷ []) 0 (Trapped NotFunction 1)
+    EndsWith (thread_of (call_through (leaf (op.Function 2))) 0 (integer 0) (Done ∷ [])) (Exit 5 ∷ []) 1 (Exited 5)
+    × EndsWith (thread_of (call_through (leaf (op.Function 1))) 0 (integer 0) (Done ∷ [])) (Trap FunctionType 1 ∷ []) 0 (Trapped FunctionType 1)
+    × EndsWith (thread_of (call_through (static 0)) 0 (integer 0) (Done ∷ [])) (Trap NotFunction 1 ∷ []) 0 (Trapped NotFunction 1)
+    × EndsWith (thread_of (call_through (number 0)) 0 (integer 0) (Done ∷ [])) (Trap NotFunction 1 ∷ []) 0 (Trapped NotFunction 1)
 
 -- `int*f(void){int x=7;return &x;}`: a home is not voided, so `*f()` is 7
 abbrev pub returns_its_home : Stmt
@@ -93,7 +93,7 @@ returns_its_home = block_of_two (local_of 0 (Home 4) ∷ []) (Run (two (op.Store
 
 abbrev pub HomeOutlivesItsCall : Type 0
 HomeOutlivesItsCall =
-    EndedAfter
+    EndsWith
     (thread_of (main_of (returns (one (op.Load (Integer I32)) (leaf (op.Call 1)))) ∷ function_of false 2 0 returns_its_home ∷ []) 0 (integer 0)
     (Made 2 67584 ∷ Granted ∷ Done ∷ Granted ∷ Number 7 ∷ Done ∷ []))
     (New 4 1 ∷ Check (ObjectHalf 2) 67584 4 true ∷ SetInt (bytes_at 2 0 4) 7

@@ -49,7 +49,7 @@ static n = leaf (op.Static n)
 abbrev pub base : ℕ → ℕ
 base n = 65536 + 1024 * n
 
--- nothing is called where single expressions are played
+-- nothing is called where single expressions are expr_play
 abbrev pub around : Around
 around = record {
   rounds = 3;
@@ -68,31 +68,31 @@ bytes_at object offset width = record { object = object; offset = offset; width 
 abbrev pub into : (object offset : ℕ) → Value
 into object offset = record { number = base object + offset; half = ObjectHalf object }
 
--- ---- what is played
+-- ---- what is expr_play
 
 -- a play that gives a value in a state, when these answers are taken, these events made, and so many backward jumps and calls
-abbrev pub GaveWith : {A : Type 0} → (jumps calls : ℕ) → TextPlay A → List Answer → List Event → State → A → Type 0
-GaveWith jumps calls play answers events state value =
+abbrev pub YieldsWith : {A : Type 0} → (jumps calls : ℕ) → TextPlay A → List Answer → List Event → State → A → Type 0
+YieldsWith jumps calls play answers events state value =
     run play (fresh_log answers) ≡ Goes state value (record { answers = []; events = events; jumps = jumps; calls = calls })
 
 -- the same without a jump or a call
-abbrev pub Gave : {A : Type 0} → TextPlay A → List Answer → List Event → State → A → Type 0
-Gave play answers events state value = GaveWith 0 0 play answers events state value
+abbrev pub Yields : {A : Type 0} → TextPlay A → List Answer → List Event → State → A → Type 0
+Yields play answers events state value = YieldsWith 0 0 play answers events state value
 
 -- a play that traps at line 1 after these events
-abbrev pub TrappedAfter : {A : Type 0} → TextPlay A → List Answer → List Event → Reason → Type 0
-TrappedAfter play answers events reason =
+abbrev pub Traps : {A : Type 0} → TextPlay A → List Answer → List Event → Reason → Type 0
+Traps play answers events reason =
     run play (fresh_log (answers ++ Done ∷ []))
     ≡ Ends (Finished (Trapped reason 1)) (record { answers = []; events = events ++ Trap reason 1 ∷ []; jumps = 0; calls = 0 })
 
 -- a play that waits, when this answer doesn't fit what it asks after these events
-abbrev pub WaitedAt : {A : Type 0} → TextPlay A → List Answer → List Event → Answer → Type 0
-WaitedAt play answers events answer =
+abbrev pub WaitsAt : {A : Type 0} → TextPlay A → List Answer → List Event → Answer → Type 0
+WaitsAt play answers events answer =
     run play (fresh_log (answers ++ answer ∷ [])) ≡ Ends Waits (record { answers = answer ∷ []; events = events; jumps = 0; calls = 0 })
 
 -- an expression, from these locals
-abbrev pub played : Expr → State → TextPlay Value
-played e state = play_expr around e state
+abbrev pub expr_play : Expr → State → TextPlay Value
+expr_play e state = play_expr around e state
 
 -- ---- statements, at line 1
 
@@ -127,5 +127,5 @@ abbrev pub set : ℕ → Expr → Stmt
 set x e = Run (one (op.SetLocal x) e)
 
 -- a statement, from these locals
-abbrev pub carried_out : Stmt → State → TextPlay Flow
-carried_out s state = play_stmt around s state
+abbrev pub stmt_play : Stmt → State → TextPlay Flow
+stmt_play s state = play_stmt around s state

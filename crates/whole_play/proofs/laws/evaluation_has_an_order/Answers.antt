@@ -3,9 +3,9 @@ use Rattle.std.proofs.Common.{refl}
 use Rattle.filc_num.specs.Integers.{convert_of, binary_of}
 use Rattle.whole_play.proofs.laws.evaluation_has_an_order.Goals as goal
 
-pub returns-clause-place : goal.returns-clause-place
+pub returns-clause-lvalue : goal.returns-clause-lvalue
 unfolding convert_of binary_of
-returns-clause-place c = refl
+returns-clause-lvalue c = refl
 
 pub returns-clause-old_value : goal.returns-clause-old_value
 unfolding convert_of binary_of
