@@ -12,6 +12,7 @@ use Rattle.filc_num.specs.declared.integer.BinOp.{BinOp}
 use Rattle.ideal_machine.specs.declared.value.Value.{Value}
 use Rattle.ideal_machine.specs.declared.value.Half.TheVariants.{Object as ObjectHalf, Function as FunctionHalf}
 use Rattle.ideal_machine.specs.declared.event.Event.TheVariants.{Name}
+use Rattle.ideal_machine.specs.Beginning.{function_address, address_sum}
 use Rattle.ideal_machine.specs.Values.{integer}
 use Rattle.ideal_machine.specs.Play.{Gives, bind}
 use Rattle.ideal_machine.specs.Phrases.{Phrase, arithmetic}
@@ -25,7 +26,7 @@ object_pointer base n = record { number = base n; half = ObjectHalf n }
 
 -- to a function
 abbrev pub function_pointer : ℕ → Value
-function_pointer f = record { number = 16 * (f + 1); half = FunctionHalf f }
+function_pointer f = record { number = function_address f; half = FunctionHalf f }
 
 -- the bits of an integer without a capability
 abbrev pub pointer_of_int : Value → Value
@@ -35,7 +36,7 @@ pointer_of_int v = integer v.number
 
 -- so many bytes on
 abbrev pub advance : Value → ℕ → Value
-advance p bytes = record p { number = (p.number + bytes) % 2 ^ 64 }
+advance p bytes = record p { number = address_sum p.number bytes }
 
 -- so many bytes back
 abbrev pub retreat : Value → ℕ → Value

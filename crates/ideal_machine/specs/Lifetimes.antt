@@ -12,18 +12,12 @@ use Rattle.filc_num.specs.declared.reason.Reason.TheVariants.{NoCell}
 use Rattle.ideal_machine.specs.declared.value.Half.TheVariants.{Object as ObjectHalf}
 use Rattle.ideal_machine.specs.declared.value.Value.{Value}
 use Rattle.ideal_machine.specs.declared.event.Event.TheVariants.{New, Void, Size}
+use Rattle.ideal_machine.specs.Memory.{malloc_kind, home_kind}
 use Rattle.ideal_machine.specs.Values.{integer}
 use Rattle.ideal_machine.specs.Queries.{Makes, NewObject}
 use Rattle.ideal_machine.specs.Play.{Gives, Asks, bind}
 use Rattle.ideal_machine.specs.Phrases.{Phrase, trap, unless_refused, if_zero}
 use Rattle.ideal_machine.specs.Retries.{ask}
-
--- the kinds of objects that a run makes
-abbrev pub malloc_kind : ℕ
-malloc_kind = 0
-
-abbrev pub home_kind : ℕ
-home_kind = 1
 
 -- the pointer to a new object
 abbrev pub pointer_to : NewObject → Value

@@ -21,6 +21,7 @@ use Rattle.ideal_machine.specs.declared.value.Value.{Value}
 use Rattle.ideal_machine.specs.declared.event.Access.{Access}
 use Rattle.ideal_machine.specs.declared.event.Seen.TheVariants.{Any, Found as SeenFound}
 use Rattle.ideal_machine.specs.declared.event.Event.TheVariants.{GetInt, SetInt, GetHalf, Open, SetHalf, CasHalf}
+use Rattle.ideal_machine.specs.Words.{same_found}
 use Rattle.ideal_machine.specs.Queries.{ChecksForCell}
 use Rattle.ideal_machine.specs.Play.{Gives, Asks, bind}
 use Rattle.ideal_machine.specs.Phrases.{Phrase, unless_refused}
@@ -82,19 +83,6 @@ swap_pair base p v line =
 pub record PairExchange : Type 0 where
   pub found : Value
   pub is_made : Bool
-
-abbrev pub same_half : Half → Half → Bool
-same_half Nothing Nothing = true
-same_half Freed Freed = true
-same_half (ObjectHalf n) (ObjectHalf m) = n == m
-same_half (FunctionHalf f) (FunctionHalf g) = f == g
-same_half half other = false
-
--- two halves that were found are the same where they are equal, or pairs of one number
-abbrev pub same_found : Found → Found → Bool
-same_found (FoundPlain half) (FoundPlain other) = same_half half other
-same_found (FoundPair number) (FoundPair other) = number == other
-same_found found other = false
 
 -- the desired pointer takes the place of what was seen, unless something else is there by now
 abbrev pub replace_seen : Access → (seen : Found) → (found desired : Value) → Phrase (Option PairExchange)
