@@ -3,3 +3,4 @@ pub mod More
 pub mod Far
 mod EndsLast
 mod Depth
+mod Histories

@@ -5,7 +5,10 @@ pub mod Printing
 pub mod Expressions
 pub mod Statements
 pub mod WholePlay
+pub mod Legal
+pub mod Observable
 pub mod MoreRounds
 pub mod MoreAnswers
 pub mod EndsLast
+pub mod Histories
 pub mod Worked

@@ -3,6 +3,7 @@
 ghost use Rattle.whole_play.specs.MoreRounds.{MoreRounds};
 ghost use Rattle.whole_play.specs.MoreAnswers.{MoreAnswers};
 ghost use Rattle.whole_play.specs.EndsLast.{NothingFollowsAnEnd};
+ghost use Rattle.whole_play.specs.Histories.{HistoriesStayLegal, BeginningsAreLegal};
 ghost use Rattle.whole_play.specs.Worked.Integers.{IntRead, IntStore, RefusedRead};
 ghost use Rattle.whole_play.specs.Worked.Integers.{NoCellIsNoReason, IntSwap, IntFetch, IntCombine};
 ghost use Rattle.whole_play.specs.Worked.Integers.{AtomicDivision, IntExchange, IntExchangeFails};
@@ -49,6 +50,16 @@ pub fn more_answers_only_add()
 /// A thread makes nothing after it ended itself or the program.
 pub fn nothing_follows_an_end()
     ensures { NothingFollowsAnEnd }
+{}
+
+/// A history stays legal where each loop may make more rounds.
+pub fn histories_stay_legal()
+    ensures { HistoriesStayLegal }
+{}
+
+/// Each beginning of a legal history is legal.
+pub fn beginnings_are_legal()
+    ensures { BeginningsAreLegal }
 {}
 
 /// Integers are read and stored by a check and one event.
