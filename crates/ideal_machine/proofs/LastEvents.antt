@@ -1,12 +1,16 @@
 -- Nothing follows an event that ends its thread: it comes last in every phrase, and what `bind` puts after it isn't reached.
 use Rattle.std.proofs.Common.{◌≡◌, ℕ, zero, suc, List, [], ◌∷◌, ◌++◌, Bool, true, false, Option, Some, None, refl, sym, ap, ◌∙◌, append_assoc, append-nil}
+use Rattle.filc_num.specs.declared.reason.Reason.{Reason}
+use Rattle.ideal_machine.specs.declared.value.Half.{Half}
+use Rattle.ideal_machine.specs.declared.value.Half.TheVariants.{Nothing, Freed, Object as ObjectHalf, Function as FunctionHalf}
 use Rattle.ideal_machine.specs.declared.value.Value.{Value}
 use Rattle.ideal_machine.specs.declared.event.Event.{Event}
 use Rattle.ideal_machine.specs.declared.event.Answer.{Answer}
 use Rattle.ideal_machine.specs.Queries.{Reply, event_of}
 use Rattle.ideal_machine.specs.Play.{Play, Gives, Stops, Asks, Jump, Call, Finished, bind, Log, with_event, with_jump, with_call, log_of, run}
-use Rattle.ideal_machine.specs.Phrases.{Phrase, leave}
+use Rattle.ideal_machine.specs.Phrases.{Phrase, unless_refused, leave}
 use Rattle.ideal_machine.specs.Retries.{or_else, retry}
+use Rattle.ideal_machine.specs.IntAccess.{access_at}
 use Rattle.ideal_machine.specs.Endings.{is_end, AreEndedOnce}
 use Rattle.ideal_machine.proofs.Runs.{one_reply}
 use Rattle.ideal_machine.proofs.Relates.{Relates}
@@ -77,10 +81,21 @@ retry_inner : {X : Type 0} (n : ℕ) (step : Phrase (Option X)) → IsInner step
 retry_inner zero step h = tt
 retry_inner (suc n) step h = bind_inner step _ h (λ _ found. or_else_inner found (Jump (retry n step)) (retry_inner n step h))
 
+access_inner : (base : ℕ → ℕ) (half : Half) (address width : ℕ) → IsInner (access_at base half address width)
+access_inner base (ObjectHalf m) address width = tt
+access_inner base Nothing address width = tt
+access_inner base Freed address width = tt
+access_inner base (FunctionHalf f) address width = tt
+
+refused_inner : {S A : Type 0} (line : ℕ) (go : Play S A) → IsInner go → (reply : Option Reason) → IsInner (unless_refused line go reply)
+refused_inner line go h None = h
+refused_inner line go h (Some reason) = λ _. (tt, λ _. tt)
+
 pub inner_relates : (n : ℕ) → Relates n n (λ S A p q. IsInner p)
 inner_relates n = record {
   gives = λ state value. tt;
-  waits = tt;
+  checks = λ base p width write line reply. (refused_inner line _ (access_inner base p.half p.number width) reply, λ is. absurd (cc));
+  cell_checks = λ base p line reply. (refused_inner line _ (access_inner base p.half p.number 8) reply, λ is. absurd (cc));
   asks = λ query next next' e h reply. (h reply, λ is. absurd (true_is_false (sym is ∙ e reply)));
   traps = λ reason line _. (tt, λ _. tt);
   exits = λ value _. (tt, λ _. tt);

@@ -18,11 +18,11 @@ use Rattle.ideal_machine.specs.declared.event.Access.{Access}
 use Rattle.ideal_machine.specs.declared.event.Operation.{Operation}
 use Rattle.ideal_machine.specs.Values.{integer}
 use Rattle.ideal_machine.specs.Queries.{Query, Reply, Locks, LockReply, Taken, CheckedAgain, NewObject, event_of}
-use Rattle.ideal_machine.specs.Play.{Play, Gives, Stops, Asks, Jump, Call, Waits, bind}
+use Rattle.ideal_machine.specs.Play.{Play, Gives, Asks, Jump, Call, bind}
 use Rattle.ideal_machine.specs.Phrases.{Phrase, trap, unless_refused, exit, put_out, operator_result, arithmetic_result, arithmetic, if_zero}
 use Rattle.ideal_machine.specs.Retries.{retry}
 use Rattle.ideal_machine.specs.Addresses.{look_at, distance, compare, int_of_pointer}
-use Rattle.ideal_machine.specs.IntAccess.{access_at, check_access, load_int, store_int, update_int, exchange_int}
+use Rattle.ideal_machine.specs.IntAccess.{check_access, load_int, store_int, update_int, exchange_int}
 use Rattle.ideal_machine.specs.PointerAccess.{check_store, pointer_found, load_pointer, store_pointer, store_pair, swap_pair, replace_seen, exchange_round, exchange_pair}
 use Rattle.ideal_machine.specs.Lifetimes.{home_or_trap, make_home, make_object, free_object, size_or_trap, tell_size}
 use Rattle.ideal_machine.specs.Threads.{lock_result, take_lock, if_kind, function_of_half, function_named, thread_kind, start_thread, join_thread, take_in}
@@ -31,10 +31,13 @@ use Rattle.ideal_machine.specs.Endings.{is_end}
 -- it goes along with each way to make a play, where the second has another bound on rounds
 pub record Relates (rounds rounds' : ℕ) (R : (S A : Type 0) → Play S A → Play S A → Type 0) : Type 1 where
   pub gives : {S A : Type 0} (state : S) (value : A) → R S A (Gives state value) (Gives state value)
-  pub waits : {S A : Type 0} → R S A (Stops Waits) (Stops Waits)
   pub asks :
       {S A : Type 0} (query : Query) (next next' : Reply query → Play S A) → ((reply : Reply query) → is_end (event_of query reply) ≡ false) →
       ((reply : Reply query) → R S A (next reply) (next' reply)) → R S A (Asks query next) (Asks query next')
+  pub checks :
+      (base : ℕ → ℕ) (p : Value) (width : ℕ) (write : Bool) (line : ℕ) →
+      R (Unit {0}) Access (check_access base p width write line) (check_access base p width write line)
+  pub cell_checks : (base : ℕ → ℕ) (p : Value) (line : ℕ) → R (Unit {0}) Access (check_store base p line) (check_store base p line)
   pub traps : {S A : Type 0} (reason : Reason) (line : ℕ) → R S A (trap reason line) (trap reason line)
   pub exits : (value : Value) → R (Unit {0}) ℕ (exit value) (exit value)
   pub jumps : {S A : Type 0} (p p' : Play S A) → R S A p p' → R S A (Jump p) (Jump p')
@@ -94,32 +97,20 @@ module _ (rounds rounds' : ℕ) (R : (S A : Type 0) → Play S A → Play S A �
 
   -- ---- integers
 
-  access_to : (base : ℕ → ℕ) (half : Half) (address width : ℕ) → Self (access_at base half address width)
-  access_to base (ObjectHalf n) address width = r.gives tt _
-  access_to base Nothing address width = r.waits
-  access_to base Freed address width = r.waits
-  access_to base (FunctionHalf f) address width = r.waits
-
-  check : (base : ℕ → ℕ) (p : Value) (width : ℕ) (write : Bool) (line : ℕ) → Self (check_access base p width write line)
-  check base p width write line = r.asks _ _ _ (λ _. refl) (refusal line _ (access_to base p.half p.number width))
-
   pub read : (base : ℕ → ℕ) (ty : IntType) (p : Value) (line : ℕ) → Self (load_int base ty p line)
-  read base ty p line = self_bind _ _ (check base p _ false line) (λ _ access. r.asks _ _ _ (λ _. refl) (λ n. r.gives tt _))
+  read base ty p line = self_bind _ _ (r.checks base p _ false line) (λ _ access. r.asks _ _ _ (λ _. refl) (λ n. r.gives tt _))
 
   pub write : (base : ℕ → ℕ) (ty : IntType) (p v : Value) (line : ℕ) → Self (store_int base ty p v line)
-  write base ty p v line = self_bind _ _ (check base p _ true line) (λ _ access. r.asks _ _ _ (λ _. refl) (λ _. r.gives tt _))
+  write base ty p v line = self_bind _ _ (r.checks base p _ true line) (λ _ access. r.asks _ _ _ (λ _. refl) (λ _. r.gives tt _))
 
   pub update : (base : ℕ → ℕ) (ty : IntType) (p : Value) (operation : Operation) (v : Value) (line : ℕ) → Self (update_int base ty p operation v line)
   update base ty p operation v line =
-      self_bind _ _ (check base p _ true line) (λ _ access. r.asks _ _ _ (λ _. refl) (λ n. r.gives tt _))
+      self_bind _ _ (r.checks base p _ true line) (λ _ access. r.asks _ _ _ (λ _. refl) (λ n. r.gives tt _))
 
   pub exchange : (base : ℕ → ℕ) (ty : IntType) (p expected desired : Value) (line : ℕ) → Self (exchange_int base ty p expected desired line)
-  exchange base ty p expected desired line = self_bind _ _ (check base p _ true line) (λ _ access. r.asks _ _ _ (λ _. refl) (λ _. r.gives tt _))
+  exchange base ty p expected desired line = self_bind _ _ (r.checks base p _ true line) (λ _ access. r.asks _ _ _ (λ _. refl) (λ _. r.gives tt _))
 
   -- ---- pointers
-
-  check_cell : (base : ℕ → ℕ) (p : Value) (line : ℕ) → Self (check_store base p line)
-  check_cell base p line = r.asks _ _ _ (λ _. refl) (refusal line _ (access_to base p.half p.number 8))
 
   pointer : (access : Access) (f : Found) → Self (pointer_found access f)
   pointer access (FoundPlain half) = r.asks _ _ _ (λ _. refl) (λ n. r.gives tt _)
@@ -127,18 +118,18 @@ module _ (rounds rounds' : ℕ) (R : (S A : Type 0) → Play S A → Play S A �
 
   pub read_both : (base : ℕ → ℕ) (p : Value) (line : ℕ) → Self (load_pointer base p line)
   read_both base p line =
-      self_bind _ _ (check base p 8 false line) (λ _ access. r.asks _ _ _ (λ _. refl) (λ f. pointer access f))
+      self_bind _ _ (r.checks base p 8 false line) (λ _ access. r.asks _ _ _ (λ _. refl) (λ f. pointer access f))
 
   pub write_both : (base : ℕ → ℕ) (p v : Value) (line : ℕ) → Self (store_pointer base p v line)
   write_both base p v line =
-      self_bind _ _ (check_cell base p line) (λ _ access. r.asks _ _ _ (λ _. refl) (λ _. r.asks _ _ _ (λ _. refl) (λ _. r.gives tt _)))
+      self_bind _ _ (r.cell_checks base p line) (λ _ access. r.asks _ _ _ (λ _. refl) (λ _. r.asks _ _ _ (λ _. refl) (λ _. r.gives tt _)))
 
   pub write_pair : (base : ℕ → ℕ) (p v : Value) (line : ℕ) → Self (store_pair base p v line)
-  write_pair base p v line = self_bind _ _ (check_cell base p line) (λ _ access. r.asks _ _ _ (λ _. refl) (λ _. r.gives tt _))
+  write_pair base p v line = self_bind _ _ (r.cell_checks base p line) (λ _ access. r.asks _ _ _ (λ _. refl) (λ _. r.gives tt _))
 
   pub swap_both : (base : ℕ → ℕ) (p v : Value) (line : ℕ) → Self (swap_pair base p v line)
   swap_both base p v line =
-      self_bind _ _ (check_cell base p line) (λ _ access. r.asks _ _ _ (λ _. refl) (λ f. pointer access f))
+      self_bind _ _ (r.cell_checks base p line) (λ _ access. r.asks _ _ _ (λ _. refl) (λ f. pointer access f))
 
   replacement : (access : Access) (seen : Found) (there desired : Value) → Self (replace_seen access seen there desired)
   replacement access seen there desired = r.asks _ _ _ (λ _. refl) (λ _. r.gives tt _)
@@ -152,7 +143,7 @@ module _ (rounds rounds' : ℕ) (R : (S A : Type 0) → Play S A → Play S A �
       (base : ℕ → ℕ) (p expected desired : Value) (line : ℕ) →
       Related (exchange_pair base rounds p expected desired line) (exchange_pair base rounds' p expected desired line)
   exchange_both base p expected desired line =
-      r.binds _ _ _ _ (check_cell base p line) (λ _ access. r.retries _ (round access expected desired))
+      r.binds _ _ _ _ (r.cell_checks base p line) (λ _ access. r.retries _ (round access expected desired))
 
   -- ---- lifetimes
 
@@ -189,7 +180,7 @@ module _ (rounds rounds' : ℕ) (R : (S A : Type 0) → Play S A → Play S A �
 
   pub lock : (base : ℕ → ℕ) (p : Value) (line : ℕ) → Related (take_lock base rounds p line) (take_lock base rounds' p line)
   lock base p line =
-      r.binds _ _ _ _ (check base p 4 true line)
+      r.binds _ _ _ _ (r.checks base p 4 true line)
       (λ _ access. r.retries _ (r.asks _ _ _ (lock_ends p access) (lock_reply line)))
 
   of_kind : (wanted f line : ℕ) (kind : Option ℕ) → Self (if_kind wanted f line kind)

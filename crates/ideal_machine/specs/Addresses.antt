@@ -4,7 +4,7 @@
 --     p - q, p < q, (long)p     Name of each pointer, from left to right
 --
 -- A pointer is a value: its number is the address, and its half the capability.
-use Rattle.std.specs.Prelude.{ℕ, ◌+◌, ◌*◌, ◌-◌, ◌%◌, ◌^◌, pos, int_div}
+use Rattle.std.specs.Prelude.{ℕ, ◌+◌, ◌-◌, ◌%◌, ◌^◌, pos, int_div}
 use Rattle.filc_num.specs.Integers.{value_of, convert_of, wrap}
 use Rattle.filc_num.specs.declared.integer.IntType.{IntType}
 use Rattle.filc_num.specs.declared.integer.IntType.TheVariants.{I64, U64}

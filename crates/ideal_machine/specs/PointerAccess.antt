@@ -11,8 +11,6 @@
 -- Each writing check may want a cell, and may be refused for want of one. A plain store is two events, so another
 -- thread may find one half of it; a pair is stored and found at once.
 use Rattle.std.specs.Prelude.{ℕ, ◌/◌, ◌==◌, Bool, true, false, if◌then◌else◌, Option, Some, None}
-use Rattle.ideal_machine.specs.declared.value.Half.{Half}
-use Rattle.ideal_machine.specs.declared.value.Half.TheVariants.{Nothing, Freed, Object as ObjectHalf, Function as FunctionHalf}
 use Rattle.ideal_machine.specs.declared.value.Found.{Found}
 use Rattle.ideal_machine.specs.declared.value.Found.TheVariants.{Plain as FoundPlain, Pair as FoundPair}
 use Rattle.ideal_machine.specs.declared.value.Kept.{Kept}

@@ -31,7 +31,7 @@ thread_outer : (n : ℕ) (program : PlainProgram) (start : Start) → IsOuter (p
 thread_outer n program start =
     let main = start.function == program.main in
     bind_outer (play_first n program start) (λ _ v. leave main v)
-    (first_function_alike n n (λ S A p q. IsInner p) (inner_relates n) (loop_inner n) program start) (λ _ v. leave_outer main v)
+    (first_function_alike n n (λ S A p q. IsInner p) (inner_relates n) (λ S A. tt) (loop_inner n) program start) (λ _ v. leave_outer main v)
 
 pub nothing_follows : NothingFollowsAnEnd
 nothing_follows n program start answers =

@@ -33,4 +33,4 @@ pub thread_far : (n : ℕ) (program : PlainProgram) (start : Start) → IsFar n 
 thread_far n program start =
     let main = start.function == program.main in
     bind_far n (play_first n program start) (λ _ v. leave main v)
-    (first_function_alike n n (λ S A p q. IsFar n p) (far_relates n) (loop_far n) program start) (λ _ v. leave_far n main v)
+    (first_function_alike n n (λ S A p q. IsFar n p) (far_relates n) (λ S A. tt) (loop_far n) program start) (λ _ v. leave_far n main v)

@@ -4,3 +4,4 @@ pub mod Far
 mod EndsLast
 mod Depth
 mod Histories
+mod Gapless

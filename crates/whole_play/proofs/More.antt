@@ -42,7 +42,7 @@ thread_cut : (n n' : ℕ) → n ≤ n' → (program : PlainProgram) (start : Sta
 thread_cut n n' le program start =
     let main = start.function == program.main in
     bind_cut (play_first n program start) (play_first n' program start) (λ _ v. leave main v) (λ _ v. leave main v)
-    (first_function_alike n n' (λ S A p q. IsCutOf p q) (cuts_relate n n' le) (loop_cut n n' le) program start)
+    (first_function_alike n n' (λ S A p q. IsCutOf p q) (cuts_relate n n' le) (λ S A. refl) (loop_cut n n' le) program start)
     (λ _ v. cut_self (leave main v))
 
 pub more_rounds : MoreRounds

@@ -24,7 +24,7 @@ use Rattle.c_tree.specs.declared.program.FunctionDef.{FunctionDef}
 use Rattle.c_tree.specs.Plain.{PlainProgram}
 use Rattle.ideal_machine.specs.declared.value.Value.{Value}
 use Rattle.ideal_machine.specs.Values.{State, integer, value_at, put_at}
-use Rattle.ideal_machine.specs.Play.{Play, Gives, bind}
+use Rattle.ideal_machine.specs.Play.{Play, Gives, Stops, Waits, bind}
 use Rattle.ideal_machine.specs.Phrases.{Phrase, Start}
 use Rattle.ideal_machine.specs.IntAccess.{is_exchanged}
 use Rattle.ideal_machine.specs.Threads.{minus_one}
@@ -38,6 +38,10 @@ use Rattle.whole_play.specs.Expressions.{play_expr, play_operands, play_links, p
 use Rattle.whole_play.specs.Statements.{on_normal, after_switch, loop, first_value, enter_block, statement_for, play_return, play_stmt, play_stmts}
 use Rattle.whole_play.specs.WholePlay.{first_state, result_of, play_function, with_function, user_line_of, around_of, call_within, further_activations, play_first}
 
+-- a play that waits for an answer is related to itself
+abbrev pub Waiting : ((S A : Type 0) → Play S A → Play S A → Type 0) → Type 1
+Waiting R = (S A : Type 0) → R S A (Stops Waits) (Stops Waits)
+
 -- a relation of loops: related parts make related loops
 abbrev pub RelatesLoops : (rounds rounds' : ℕ) → ((S A : Type 0) → Play S A → Play S A → Type 0) → Type 0
 RelatesLoops rounds rounds' R =
@@ -50,17 +54,17 @@ module _ (n n' : ℕ) (R : (S A : Type 0) → Play S A → Play S A → Type 0) 
 
   -- ---- memory
 
-  load_related : (base : ℕ → ℕ) (access : Access) (p : Value) (line : ℕ) → Related (load base access p line) (load base access p line)
+  pub load_related : (base : ℕ → ℕ) (access : Access) (p : Value) (line : ℕ) → Related (load base access p line) (load base access p line)
   load_related base (Integer ty) p line = phrase.read n n' R r base ty p line
   load_related base Pointer p line = phrase.read_both n n' R r base p line
   load_related base Box p line = phrase.read_both n n' R r base p line
 
-  store_related : (base : ℕ → ℕ) (access : Access) (p v : Value) (line : ℕ) → Related (store base access p v line) (store base access p v line)
+  pub store_related : (base : ℕ → ℕ) (access : Access) (p v : Value) (line : ℕ) → Related (store base access p v line) (store base access p v line)
   store_related base (Integer ty) p v line = phrase.write n n' R r base ty p v line
   store_related base Pointer p v line = phrase.write_both n n' R r base p v line
   store_related base Box p v line = phrase.write_pair n n' R r base p v line
 
-  swap_related : (base : ℕ → ℕ) (access : Access) (p v : Value) (line : ℕ) → Related (swap base access p v line) (swap base access p v line)
+  pub swap_related : (base : ℕ → ℕ) (access : Access) (p v : Value) (line : ℕ) → Related (swap base access p v line) (swap base access p v line)
   swap_related base (Integer ty) p v line = phrase.update n n' R r base ty p _ v line
   swap_related base Pointer p v line = phrase.swap_both n n' R r base p v line
   swap_related base Box p v line = phrase.swap_both n n' R r base p v line
@@ -73,7 +77,7 @@ module _ (n n' : ℕ) (R : (S A : Type 0) → Play S A → Play S A → Type 0) 
       phrase.either n n' R r x.is_made _ _ _ _ (r.gives tt (integer 1))
       (r.binds _ _ _ _ (phrase.write_both n n' R r base e x.found line) (λ _ _. r.gives tt (integer 0)))))
 
-  compare_related :
+  pub compare_related :
       (base : ℕ → ℕ) (access : Access) (p e v : Value) (line : ℕ) →
       Related (compare_exchange base n access p e v line) (compare_exchange base n' access p e v line)
   compare_related base (Integer ty) p e v line =
@@ -84,23 +88,24 @@ module _ (n n' : ℕ) (R : (S A : Type 0) → Play S A → Play S A → Type 0) 
   compare_related base Pointer p e v line = pair_related base p e v line
   compare_related base Box p e v line = pair_related base p e v line
 
-  operate_related :
+  pub operate_related :
       (o : BinOp) (computed to : IntType) (old v : Value) (line : ℕ) → Related (operate o computed to old v line) (operate o computed to old v line)
   operate_related o computed to old v line = r.binds _ _ _ _ (phrase.operator n n' R r o computed old v line) (λ _ x. r.gives tt _)
 
-  change_related : (c : Change) (old v : Value) (line : ℕ) → Related (new_value c old v line) (new_value c old v line)
+  pub change_related : (c : Change) (old v : Value) (line : ℕ) → Related (new_value c old v line) (new_value c old v line)
   change_related (change.Integer o computed to) old v line = operate_related o computed to old v line
   change_related (change.Advance bytes) old v line = r.gives tt _
   change_related (change.Retreat bytes) old v line = r.gives tt _
 
-  copy_related : (base : ℕ → ℕ) (unit : CopyUnit) (m : ℕ) (p q : Value) (line : ℕ) → Related (copy_units base unit m p q line) (copy_units base unit m p q line)
+  pub copy_related : (base : ℕ → ℕ) (unit : CopyUnit) (m : ℕ) (p q : Value) (line : ℕ) → Related (copy_units base unit m p q line) (copy_units base unit m p q line)
   copy_related base unit zero p q line = r.gives tt tt
   copy_related base unit (suc m) p q line =
       r.binds _ _ _ _ (load_related base (unit_access unit) q line) (λ _ v.
       r.binds _ _ _ _ (store_related base (unit_access unit) p v line) (λ _ _. r.jumps _ _ (copy_related base unit m _ _ line)))
 
 module _
-    (around : Around) (n' : ℕ) (R : (S A : Type 0) → Play S A → Play S A → Type 0) (r : Relates around.rounds n' R) (loops : RelatesLoops around.rounds n' R)
+    (around : Around) (n' : ℕ) (R : (S A : Type 0) → Play S A → Play S A → Type 0) (r : Relates around.rounds n' R)
+    (waits : Waiting R) (loops : RelatesLoops around.rounds n' R)
     (call' : (function line : ℕ) → List Value → Phrase Value)
     (calls : (f line : ℕ) (values : List Value) → R (Unit {0}) Value (around.call f line values) (call' f line values)) where
   abbrev n : ℕ
@@ -155,7 +160,8 @@ module _
   apply_alike (op.Combine ty o computed) line (p ∷ v ∷ []) state = r.binds _ _ _ _ (phrase.update n n' R r around.base ty p _ v line) (λ _ old.
       then_alike state _ _ (λ v. v) (operate_related n n' R r o computed ty old v line))
   apply_alike (op.Call f) line values state = r.calls _ _ (then_alike state _ _ (λ v. v) (calls f line values))
-  apply_alike (op.CallPointer kind) line (p ∷ values) state = r.binds _ _ _ _ (phrase.function n n' R r around.kinds kind p line) (λ _ f. r.calls _ _ (then_alike state _ _ (λ v. v) (calls f line values)))
+  apply_alike (op.CallPointer kind) line (p ∷ values) state =
+      r.binds _ _ _ _ (phrase.function n n' R r around.kinds kind p line) (λ _ f. r.calls _ _ (then_alike state _ _ (λ v. v) (calls f line values)))
   apply_alike op.New line (bytes ∷ []) state = then_alike state _ _ (λ v. v) (phrase.object n n' R r bytes)
   apply_alike op.Free line (p ∷ []) state = then_alike state _ _ (λ _. p) (phrase.free n n' R r p line)
   apply_alike op.Size line (p ∷ []) state = then_alike state _ _ (λ v. v) (phrase.size n n' R r p line)
@@ -168,7 +174,7 @@ module _
   apply_alike op.Exit line (v ∷ []) state = then_alike state _ _ (λ _. v) (r.exits v)
   apply_alike op.Abort line [] state = r.traps _ line
   apply_alike op.Second line (a ∷ b ∷ []) state = r.gives state b
-  apply_alike o line values state = r.waits
+  apply_alike o line values state = waits _ _
 
   -- ---- printing
 
@@ -186,7 +192,7 @@ module _
       r.binds _ _ _ _ (phrase.operator n n' R r _ I32 count bytes line) (λ _ total. pieces_alike values line pieces total))
 
   print_alike : (pieces : List Piece) (line : ℕ) (values : List Value) → Alike (print around pieces line values) (print around' pieces line values)
-  print_alike pieces line [] = r.waits
+  print_alike pieces line [] = waits _ _
   print_alike pieces line (lock ∷ arguments) =
       r.binds _ _ _ _ (phrase.lock n n' R r around.base lock line) (λ _ _.
       r.binds _ _ _ _ (pieces_alike (lock ∷ arguments) line pieces (integer 0)) (λ _ count.
@@ -286,7 +292,7 @@ module _
 -- ---- calls and threads
 
 module _
-    (n n' : ℕ) (R : (S A : Type 0) → Play S A → Play S A → Type 0) (r : Relates n n' R) (loops : RelatesLoops n n' R)
+    (n n' : ℕ) (R : (S A : Type 0) → Play S A → Play S A → Type 0) (r : Relates n n' R) (waits : Waiting R) (loops : RelatesLoops n n' R)
     (program : PlainProgram) (start : Start) where
   call_alike :
       (room f line : ℕ) (arguments : List Value) →
@@ -299,9 +305,9 @@ module _
         R (Unit {0}) Value
         (with_function o (λ g. play_function (around_of n program start (user_line_of g line) (call_within room n program start)) g arguments))
         (with_function o (λ g. play_function (around_of n' program start (user_line_of g line) (call_within room n' program start)) g arguments))
-    chosen deeper None = r.waits
+    chosen deeper None = waits _ _
     chosen deeper (Some g) =
-        function_alike (around_of n program start (user_line_of g line) (call_within room n program start)) n' R r loops
+        function_alike (around_of n program start (user_line_of g line) (call_within room n program start)) n' R r waits loops
         (call_within room n' program start) deeper g arguments
 
   pub first_function_alike : R (Unit {0}) Value (play_first n program start) (play_first n' program start)
@@ -311,7 +317,7 @@ module _
         R (Unit {0}) Value
         (with_function o (λ g. play_function (around_of n program start None (call_within further_activations n program start)) g (start.argument ∷ [])))
         (with_function o (λ g. play_function (around_of n' program start None (call_within further_activations n' program start)) g (start.argument ∷ [])))
-    chosen None = r.waits
+    chosen None = waits _ _
     chosen (Some g) =
-        function_alike (around_of n program start None (call_within further_activations n program start)) n' R r loops
+        function_alike (around_of n program start None (call_within further_activations n program start)) n' R r waits loops
         (call_within further_activations n' program start) (call_alike further_activations) g (start.argument ∷ [])

@@ -11,4 +11,5 @@ pub mod MoreRounds
 pub mod MoreAnswers
 pub mod EndsLast
 pub mod Histories
+pub mod Gapless
 pub mod Worked

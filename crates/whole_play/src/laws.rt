@@ -3,6 +3,7 @@
 ghost use Rattle.whole_play.specs.MoreRounds.{MoreRounds};
 ghost use Rattle.whole_play.specs.MoreAnswers.{MoreAnswers};
 ghost use Rattle.whole_play.specs.EndsLast.{NothingFollowsAnEnd};
+ghost use Rattle.whole_play.specs.Gapless.{ProgramsAreGapless};
 ghost use Rattle.whole_play.specs.Histories.{HistoriesStayLegal, BeginningsAreLegal};
 ghost use Rattle.whole_play.specs.Worked.Integers.{IntRead, IntStore, RefusedRead};
 ghost use Rattle.whole_play.specs.Worked.Integers.{NoCellIsNoReason, IntSwap, IntFetch, IntCombine};
@@ -60,6 +61,11 @@ pub fn histories_stay_legal()
 /// Each beginning of a legal history is legal.
 pub fn beginnings_are_legal()
     ensures { BeginningsAreLegal }
+{}
+
+/// A thread of a program waits for want of an answer, and for nothing else.
+pub fn programs_are_gapless()
+    ensures { ProgramsAreGapless }
 {}
 
 /// Integers are read and stored by a check and one event.
