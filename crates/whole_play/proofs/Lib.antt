@@ -5,3 +5,4 @@ mod EndsLast
 mod Depth
 mod Histories
 mod Gapless
+mod Torn

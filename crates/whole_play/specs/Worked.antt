@@ -11,4 +11,5 @@ pub mod Copies
 pub mod Printing
 pub mod Programs
 pub mod Lines
+pub mod Histories
 pub mod Depth

@@ -37,6 +37,7 @@ ghost use Rattle.whole_play.specs.Worked.Programs.{PointersAreCalled, HomeOutliv
 ghost use Rattle.whole_play.specs.Worked.Lines.{DivisionHasItsLine, LibraryHasTheUsersLine};
 ghost use Rattle.whole_play.specs.Worked.Lines.{LibraryCallsFurther, FirstFunctionHasItsLine};
 ghost use Rattle.whole_play.specs.Worked.Depth.{DepthIsReached, DepthIsPassed};
+ghost use Rattle.whole_play.specs.Worked.Histories.{TornPairIsLegal};
 
 /// With a greater bound on rounds a thread that was cut goes on, and any other does the same.
 pub fn more_rounds_only_add()
@@ -199,4 +200,9 @@ pub fn traps_have_lines()
 pub fn calls_have_a_depth()
     ensures reached { DepthIsReached }
     ensures passed { DepthIsPassed }
+{}
+
+/// A worked example: a history in which two threads store a pointer, and what is read back is torn.
+pub fn a_torn_pair_is_legal()
+    ensures { TornPairIsLegal }
 {}
