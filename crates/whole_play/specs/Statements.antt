@@ -78,6 +78,7 @@ play_return around (Some value) state = bind (play_expr around value state) (λ 
 abbrev mutual
   pub play_stmt : Around → Stmt → State → TextPlay Flow
   play_stmt around (Run value) state = bind (play_expr around value state) (λ state _. Gives state Normal)
+  -- a block is left without an event, however it is left: homes aren't voided
   play_stmt around (Block' locals z body) state =
       bind (enter_block around locals state) (λ state _. play_stmts around body 0 state)
   play_stmt around (If' line test s (more_of-Stmt one end_of-Stmt) s1 (more_of-Stmt other end_of-Stmt)) state =

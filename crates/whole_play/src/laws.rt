@@ -8,7 +8,8 @@ ghost use Rattle.whole_play.specs.Histories.{HistoriesStayLegal, BeginningsAreLe
 ghost use Rattle.whole_play.specs.Worked.Integers.{IntRead, IntStore, RefusedRead};
 ghost use Rattle.whole_play.specs.Worked.Integers.{NoCellIsNoReason, IntSwap, IntFetch, IntCombine};
 ghost use Rattle.whole_play.specs.Worked.Integers.{AtomicDivision, IntExchange, IntExchangeFails};
-ghost use Rattle.whole_play.specs.Worked.Integers.{BoolExchangeFails};
+ghost use Rattle.whole_play.specs.Worked.Integers.{BoolExchangeFails, OperatorsCompute};
+ghost use Rattle.whole_play.specs.Worked.Integers.{OperatorsTrap};
 ghost use Rattle.whole_play.specs.Worked.Pointers.{PointerRead, PairRead, PointerStore, PairStore};
 ghost use Rattle.whole_play.specs.Worked.Pointers.{PairSwap, PlainSwap, NoCellTraps, TornRead};
 ghost use Rattle.whole_play.specs.Worked.PairExchanges.{ExchangeIsMade, ExchangeIsTriedAgain};
@@ -36,6 +37,7 @@ ghost use Rattle.whole_play.specs.Worked.Programs.{MainExits, ThreadEnds, Argume
 ghost use Rattle.whole_play.specs.Worked.Programs.{PointersAreCalled, HomeOutlivesItsCall};
 ghost use Rattle.whole_play.specs.Worked.Lines.{DivisionHasItsLine, LibraryHasTheUsersLine};
 ghost use Rattle.whole_play.specs.Worked.Lines.{LibraryCallsFurther, FirstFunctionHasItsLine};
+ghost use Rattle.whole_play.specs.Worked.Lines.{DepthHasTheUsersLine};
 ghost use Rattle.whole_play.specs.Worked.Depth.{DepthIsReached, DepthIsPassed};
 ghost use Rattle.whole_play.specs.Worked.Histories.{TornPairIsLegal};
 
@@ -67,6 +69,12 @@ pub fn beginnings_are_legal()
 /// A thread of a program waits for want of an answer, and for nothing else.
 pub fn programs_are_gapless()
     ensures { ProgramsAreGapless }
+{}
+
+/// Operators on integers make no event, and trap where they have no result.
+pub fn operators_make_no_event()
+    ensures compute { OperatorsCompute }
+    ensures trap { OperatorsTrap }
 {}
 
 /// Integers are read and stored by a check and one event.
@@ -194,6 +202,7 @@ pub fn traps_have_lines()
     ensures library { LibraryHasTheUsersLine }
     ensures further { LibraryCallsFurther }
     ensures first { FirstFunctionHasItsLine }
+    ensures depth { DepthHasTheUsersLine }
 {}
 
 /// A thread has 1,024 activations at once, and the call of one more traps.

@@ -31,11 +31,13 @@ abbrev pub DepthIsReached : Type 0
 DepthIsReached =
     (n calls : ℕ) → calls ≤ 1023 →
     play n deep deep_start (replicate calls (Number 1) ++ Number 0 ∷ Done ∷ [])
-    ≡ Ends (Finished (Exited 0)) (record { answers = []; events = replicate (suc calls) Input ++ Exit 0 ∷ []; jumps = 0; calls = calls })
+    ≡ Ends (Finished (Exited 0))
+    (record { answers = []; events = replicate (suc calls) Input ++ Exit 0 ∷ []; jumps = 0; calls = calls })
 
 -- the next call traps at its line
 abbrev pub DepthIsPassed : Type 0
 DepthIsPassed =
     (n : ℕ) →
     play n deep deep_start (replicate 1024 (Number 1) ++ Done ∷ [])
-    ≡ Ends (Finished (Trapped CallDepth 1)) (record { answers = []; events = replicate 1024 Input ++ Trap CallDepth 1 ∷ []; jumps = 0; calls = 1024 })
+    ≡ Ends (Finished (Trapped CallDepth 1))
+    (record { answers = []; events = replicate 1024 Input ++ Trap CallDepth 1 ∷ []; jumps = 0; calls = 1024 })

@@ -2,9 +2,9 @@
 use Rattle.std.specs.Prelude.{ℕ, [], ◌∷◌, true, false}
 use Rattle.filc_num.specs.Integers.{bytes_of, convert_of}
 use Rattle.filc_num.specs.declared.integer.IntType.{IntType}
-use Rattle.filc_num.specs.declared.integer.IntType.TheVariants.{Bool as BoolType, I32}
-use Rattle.filc_num.specs.declared.integer.BinOp.TheVariants.{Add, Div}
-use Rattle.filc_num.specs.declared.reason.Reason.TheVariants.{NoCapability, NoCell, Divide}
+use Rattle.filc_num.specs.declared.integer.IntType.TheVariants.{Bool as BoolType, I8, I32, U32}
+use Rattle.filc_num.specs.declared.integer.BinOp.TheVariants.{Add, Div, Rem, Shl, Lt}
+use Rattle.filc_num.specs.declared.reason.Reason.TheVariants.{NoCapability, NoCell, Divide, Shift}
 use Rattle.c_tree.specs.declared.operation.Operation.TheVariants as op
 use Rattle.c_tree.specs.declared.operation.Access.TheVariants.{Integer}
 use Rattle.ideal_machine.specs.declared.value.Half.TheVariants.{Nothing, Object as ObjectHalf}
@@ -13,6 +13,26 @@ use Rattle.ideal_machine.specs.declared.event.Event.TheVariants.{Check, GetInt, 
 use Rattle.ideal_machine.specs.declared.event.Answer.TheVariants.{Granted, Refused, Done, Number}
 use Rattle.ideal_machine.specs.Values.{integer}
 use Rattle.whole_play.specs.Worked.Setting.{one, two, three, number, static, bytes_at, Yields, Traps, WaitsAt, expr_play}
+
+-- ---- operators: no event
+
+-- `-5`, `~0`, `!0` and a conversion of 300 to int8_t; `-1 < 1u` is 0, since it is computed in unsigned int
+abbrev pub OperatorsCompute : Type 0
+OperatorsCompute =
+    Yields (expr_play (one (op.Negate I32) (number 5)) []) [] [] [] (integer 18446744073709551611)
+    × Yields (expr_play (one (op.Complement I32) (number 0)) []) [] [] [] (integer 18446744073709551615)
+    × Yields (expr_play (one (op.Not I32) (number 0)) []) [] [] [] (integer 1)
+    × Yields (expr_play (one (op.Convert I8) (number 300)) []) [] [] [] (integer 44)
+    × Yields (expr_play (two (op.Binary Lt U32) (number 18446744073709551615) (number 1)) []) [] [] [] (integer 0)
+
+-- the least int by -1, `1 << 32` and `1 % 0` have no result
+abbrev pub OperatorsTrap : Type 0
+OperatorsTrap =
+    Traps (expr_play (two (op.Binary Div I32) (number 18446744071562067968) (number 18446744073709551615)) []) [] [] Divide
+    × Traps (expr_play (two (op.Binary Shl I32) (number 1) (number 32)) []) [] [] Shift
+    × Traps (expr_play (two (op.Binary Rem I32) (number 1) (number 0)) []) [] [] Divide
+
+-- ---- memory
 
 -- an integer read: Check, GetInt; it gives a value of its type
 abbrev pub IntRead : Type 0

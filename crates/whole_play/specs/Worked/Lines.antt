@@ -1,8 +1,8 @@
 -- Worked plays of the lines of traps.
-use Rattle.std.specs.Prelude.{ℕ, [], ◌∷◌, true, false}
+use Rattle.std.specs.Prelude.{◌≡◌, ℕ, [], ◌∷◌, true, false}
 use Rattle.filc_num.specs.declared.integer.IntType.TheVariants.{I8, I32}
 use Rattle.filc_num.specs.declared.integer.BinOp.TheVariants.{Div}
-use Rattle.filc_num.specs.declared.reason.Reason.TheVariants.{NoCapability, Divide}
+use Rattle.filc_num.specs.declared.reason.Reason.TheVariants.{NoCapability, Divide, CallDepth}
 use Rattle.c_tree.specs.declared.operation.Operation.{Operation}
 use Rattle.c_tree.specs.declared.operation.Operation.TheVariants as op
 use Rattle.c_tree.specs.declared.operation.Access.TheVariants.{Integer}
@@ -14,8 +14,11 @@ use Rattle.ideal_machine.specs.declared.finish.Finish.TheVariants.{Trapped}
 use Rattle.ideal_machine.specs.declared.event.Event.TheVariants.{Check, Trap}
 use Rattle.ideal_machine.specs.declared.event.Answer.TheVariants.{Refused, Done}
 use Rattle.ideal_machine.specs.Values.{integer}
+use Rattle.ideal_machine.specs.Play.{Finished, Ends, fresh_log, run}
+use Rattle.ideal_machine.specs.Phrases.{Start}
+use Rattle.whole_play.specs.WholePlay.{call_within}
 use Rattle.whole_play.specs.Worked.Setting.{one, number, local, empty, block_of_one, local_of, set}
-use Rattle.whole_play.specs.Worked.Programs.{function_of, thread_of, EndsWith, main_of, returns}
+use Rattle.whole_play.specs.Worked.Programs.{program_of, function_of, thread_of, EndsWith, main_of, returns}
 
 -- an operation on one or two operands, at a line
 abbrev pub one_at : (line : ℕ) → Operation → Expr → Expr
@@ -63,3 +66,13 @@ abbrev pub FirstFunctionHasItsLine : Type 0
 FirstFunctionHasItsLine =
     EndsWith (thread_of (main_of empty ∷ function_of true 0 1 (returns reads) ∷ []) 1 (integer 0) (Refused NoCapability ∷ Done ∷ []))
     (Check Nothing 0 1 false ∷ Trap NoCapability 1 ∷ []) 0 (Trapped NoCapability 1)
+
+-- a call for which there is no room traps at its line, which is the user's where a header's text makes it
+abbrev pub DepthHasTheUsersLine : Type 0
+DepthHasTheUsersLine =
+    (n : ℕ) (start : Start) →
+    run
+    (call_within 1 n (program_of (main_of empty ∷ calls_further ∷ function_of true 2 1 (returns reads) ∷ [])) start 1 3
+    (integer 0 ∷ []))
+    (fresh_log (Done ∷ []))
+    ≡ Ends (Finished (Trapped CallDepth 3)) (record { answers = []; events = Trap CallDepth 3 ∷ []; jumps = 0; calls = 1 })

@@ -73,12 +73,15 @@ shows_locals = block_of_two [] (put (local 1)) (block_of_two [] (put (local 2)) 
 
 abbrev pub ArgumentsArePassed : Type 0
 ArgumentsArePassed =
-    EndsWith (thread_of (main_of (returns (two (op.Call 1) (number 7) (number 8))) ∷ function_of false 2 2 shows_locals ∷ []) 0 (integer 0) (Done ∷ Done ∷ Done ∷ []))
+    EndsWith
+    (thread_of (main_of (returns (two (op.Call 1) (number 7) (number 8))) ∷ function_of false 2 2 shows_locals ∷ []) 0 (integer 0)
+    (Done ∷ Done ∷ Done ∷ []))
     (Out 8 ∷ Out 0 ∷ Exit 7 ∷ []) 1 (Exited 7)
 
 -- a call through a pointer: its function's type has to be the call's
 abbrev pub call_through : Expr → List FunctionDef
-call_through pointer = main_of (returns (one (op.CallPointer 1) pointer)) ∷ function_of false 2 0 empty ∷ function_of false 1 0 (returns (number 5)) ∷ []
+call_through pointer =
+    main_of (returns (one (op.CallPointer 1) pointer)) ∷ function_of false 2 0 empty ∷ function_of false 1 0 (returns (number 5)) ∷ []
 
 abbrev pub PointersAreCalled : Type 0
 PointersAreCalled =

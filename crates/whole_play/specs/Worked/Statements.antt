@@ -41,7 +41,8 @@ LocalsAreZeroAgain =
 -- however a block is left, its homes stay: no event
 abbrev pub HomesStay : Type 0
 HomesStay =
-    Yields (stmt_play (block_of_two (local_of 0 (Home 4) ∷ []) (Break 1) (put (number 65))) []) (Made 2 67584 ∷ []) (New 4 1 ∷ []) (into 2 0 ∷ []) Broke
+    Yields (stmt_play (block_of_two (local_of 0 (Home 4) ∷ []) (Break 1) (put (number 65))) []) (Made 2 67584 ∷ []) (New 4 1 ∷ [])
+    (into 2 0 ∷ []) Broke
     × Yields (stmt_play (block_of_two (local_of 0 (Home 4) ∷ []) (Continue 1) (put (number 65))) []) (Made 2 67584 ∷ []) (New 4 1 ∷ [])
     (into 2 0 ∷ []) Continued
     × ((v : ℕ) →
