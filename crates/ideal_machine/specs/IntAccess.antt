@@ -7,7 +7,7 @@
 --
 -- A refused check is a trap at the access's line. An object's address is its base. A read gives a value of its type,
 -- whatever the bytes are.
-use Rattle.std.specs.Prelude.{ℕ, ◌-◌, ◌*◌, ◌%◌, ◌^◌, ◌==◌, Bool, true, false}
+use Rattle.std.specs.Prelude.{ℕ, ◌-◌, ◌%◌, ◌^◌, ◌==◌, Bool, true, false}
 use Rattle.filc_num.specs.Integers.{bytes_of, convert_of}
 use Rattle.filc_num.specs.declared.integer.IntType.{IntType}
 use Rattle.ideal_machine.specs.declared.value.Half.{Half}
@@ -60,4 +60,4 @@ exchange_int base ty p expected desired line =
 
 -- the exchange was made: the bytes that were there are those of the expected value
 abbrev pub is_exchanged : IntType → ℕ → Value → Bool
-is_exchanged ty n expected = n == expected.number % 2 ^ (8 * bytes_of ty)
+is_exchanged ty n expected = n == expected.number % 256 ^ bytes_of ty
