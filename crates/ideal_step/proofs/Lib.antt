@@ -1,2 +1,4 @@
 pub mod Parts
 pub mod Allowed
+pub mod Addresses
+pub mod Firsts

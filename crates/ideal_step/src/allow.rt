@@ -6,7 +6,7 @@ ghost use Rattle.ideal_machine.specs.declared.value.Kept.{Kept};
 ghost use Rattle.ideal_machine.specs.declared.event.Seen.{Seen};
 ghost use Rattle.ideal_machine.specs.Memory.{World, default_world};
 ghost use Rattle.ideal_machine.specs.Words.{integer_at, lock_access};
-ghost use Rattle.ideal_machine.specs.Allows.{refused_or, IsAccess, MayMake, IsAnswer, IsAllowed};
+ghost use Rattle.ideal_machine.specs.Allows.{refusal_or, IsAccess, MayMake, IsAnswer, IsAllowed};
 
 use crate::ideal::{Ideal, OUTPUT, SLOTS};
 use crate::operation::is_operation_on;
@@ -14,8 +14,8 @@ use filc_num::{Reason, is_width};
 use ideal_machine::{Access, Answer, Event, Half};
 
 /// The answer to what may be refused.
-fn refused_or(granted: Answer, refusal: Option<Reason>) -> Answer
-    ensures { result ≡ refused_or granted refusal }
+fn refusal_or(granted: Answer, refusal: Option<Reason>) -> Answer
+    ensures { result ≡ refusal_or granted refusal }
 {
     match refusal {
         Some(reason) => Answer::Refused(reason),
@@ -82,11 +82,11 @@ impl Ideal {
             Event::Open { pair } => self.is_pair_answer(pair, *answer),
             Event::New { .. } => self.is_new_answer(*answer),
             Event::Void { half, address } => {
-                *answer == refused_or(Answer::Granted, self.void_refusal(half, address))
+                *answer == refusal_or(Answer::Granted, self.void_refusal(half, address))
             }
             Event::Size { half, address } => {
                 let bytes = Answer::Number(self.bytes_behind(half));
-                *answer == refused_or(bytes, self.void_refusal(half, address))
+                *answer == refusal_or(bytes, self.void_refusal(half, address))
             }
             Event::Lock { object, offset } => self.is_lock_answer(object, offset, *answer),
             Event::Name { .. } | Event::Begin { .. } | Event::End { .. } => {
@@ -118,7 +118,7 @@ impl Ideal {
             return false;
         }
         let refusal = self.check_refusal(half, address, width, write);
-        answer == refused_or(Answer::Granted, refusal)
+        answer == refusal_or(Answer::Granted, refusal)
             || (write && width == 8 && answer == Answer::Refused(Reason::NoCell))
     }
 

@@ -5,6 +5,7 @@
 #![tactic(auto)]
 
 mod allow;
+mod beginning;
 mod ideal;
 mod look;
 mod make;
@@ -18,3 +19,6 @@ mod threads;
 
 pub use ideal::Ideal;
 pub use step::ideal_step;
+
+#[cfg(test)]
+mod tests;

@@ -5,7 +5,7 @@
 ghost use Rattle.std.specs.Prelude.{◌≡◌, ◌+◌, ◌%◌, ◌<◌, ◌^◌, ◌==◌, IfOk, OnErr, IfSome};
 ghost use Rattle.std.specs.Prelude.{if◌then◌else◌, map, slice_get};
 ghost use Rattle.ideal_machine.specs.Words.{with_integer, with_half, with_found, with_result};
-ghost use Rattle.ideal_machine.specs.Words.{integer_at, operated, is_seen};
+ghost use Rattle.ideal_machine.specs.Words.{integer_at, operation_result, is_seen};
 ghost use Rattle.ideal_machine.specs.Names.{object_under, with_new_object};
 ghost use Rattle.ideal_machine.specs.Allows.{IsAccess, IsOperationOn};
 ghost use Rattle.ideal_machine.specs.Effects.{new_object, with_freed, with_slot, at_state};
@@ -14,7 +14,7 @@ ghost use Rattle.ideal_step.specs.Slots.{slot_state};
 
 use crate::ideal::Ideal;
 use crate::object::Object;
-use crate::operation::{is_seen, operated};
+use crate::operation::{is_seen, operation_result};
 use crate::pair::Pair;
 use crate::slot::State;
 use filc_num::get_bytes;
@@ -97,10 +97,10 @@ impl Ideal {
         requires access { IsAccess self.old access.now }
         requires operation { IsOperationOn access.now.width operation }
         ensures { self.new ≡ with_result self.old access.now
-            (operated operation (integer_at self.old access.now) value) }
+            (operation_result operation (integer_at self.old access.now) value) }
     {
         let old = self.integer_at(access);
-        if let Some(number) = operated(operation, access.width, old, value) {
+        if let Some(number) = operation_result(operation, access.width, old, value) {
             self.put_integer(access, number);
         }
     }

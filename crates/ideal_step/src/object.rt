@@ -1,7 +1,7 @@
 //! Objects and their words.
 
-ghost use Rattle.std.specs.Prelude.{◌≡◌, ◌<◌, ◌≤◌, ◌+◌, length, true, slice_get, unwrap_or, IfOk};
-ghost use Rattle.ideal_machine.specs.Memory.{Object, zero_word};
+ghost use Rattle.std.specs.Prelude.{◌≡◌, ◌<◌, ◌≤◌, ◌+◌, length, true, false, slice_get, unwrap_or, IfOk, if◌then◌else◌};
+ghost use Rattle.ideal_machine.specs.Memory.{Object, zero_word, static_kind, literal_kind};
 ghost use Rattle.filc_num.specs.WordBytes.{IsWidth, with_bytes};
 ghost use Rattle.ideal_machine.specs.Words.{is_within, with_element};
 ghost use Rattle.ideal_machine.specs.Refusals.{access_refusal, free_refusal, has_bytes};
@@ -63,6 +63,8 @@ impl Model for Object {
 }
 
 const MALLOC: u32 = 0;
+
+const STATIC: u32 = 2;
 
 const LITERAL: u32 = 3;
 
@@ -192,6 +194,27 @@ impl Object {
             covered: false,
             words: vec![in alloc; ZERO; bytes.div_ceil(8) as usize]?,
         })
+    }
+
+    /// A static object with its first contents, or a string literal.
+    pub fn of_static(address: u64, bytes: u64, literal: bool, words: Vec<Word>) -> Object
+        ensures { result ≡ record {
+          address = address;
+          bytes = bytes;
+          kind = if literal then literal_kind else static_kind;
+          freed = false;
+          covered = false;
+          words = words.items;
+        } }
+    {
+        Object {
+            address,
+            bytes,
+            kind: if literal { LITERAL } else { STATIC },
+            freed: false,
+            covered: false,
+            words,
+        }
     }
 
     /// Puts the low bytes of a value into a word, if it is there.

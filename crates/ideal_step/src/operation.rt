@@ -2,7 +2,7 @@
 
 ghost use Rattle.std.specs.Prelude.{◌≡◌, ◌↔◌, IsTrue};
 ghost use Rattle.filc_num.specs.Integers.{is_promoted, IsRightOperand};
-ghost use Rattle.ideal_machine.specs.Words.{right_operand, operator_result, operated, is_seen};
+ghost use Rattle.ideal_machine.specs.Words.{right_operand, operator_result, operation_result, is_seen};
 ghost use Rattle.ideal_machine.specs.Words.{same_half, same_found};
 ghost use Rattle.ideal_machine.specs.Allows.{IsOperationOn};
 
@@ -48,9 +48,9 @@ fn operator_result(op: BinOp, ty: IntType, a: u64, b: u64) -> Result<u64, ArithF
 
 /// What an operation makes of the old bytes and the event's value; nothing where its operator has no
 /// result.
-pub fn operated(operation: Operation, width: u32, old: u64, value: u64) -> Option<u64>
+pub fn operation_result(operation: Operation, width: u32, old: u64, value: u64) -> Option<u64>
     requires { IsOperationOn width operation }
-    ensures { result ≡ operated operation old value }
+    ensures { result ≡ operation_result operation old value }
 {
     match operation {
         Operation::Set => Some(value),
