@@ -1,6 +1,6 @@
 -- The next token, and what it is.
-use Rattle.std.proofs.Common.{◌≡◌, ℕ, zero, suc, ◌+◌, ◌≤◌, ◌<◌, Bool, true, false, cond, List, [], ◌∷◌, ◌++◌, length, get_or, drop, refl, sym, ap, ◌∙◌, subst, arith}
-use Rattle.std.specs.Prelude.{eqb, ◌||◌, ◌&&◌, Option, Some, None, slice_get}
+use Rattle.std.proofs.Common.{◌≡◌, ℕ, zero, suc, ◌+◌, ◌≤◌, ◌<◌, Bool, true, false, cond, List, [], ◌∷◌, length, get_or, drop, refl, sym, ap, ◌∙◌, arith}
+use Rattle.std.specs.Prelude.{◌||◌, ◌&&◌, Some, None, slice_get}
 use Rattle.std.proofs.lemmas.Option.{slice_get_within, get_or_from_slice_get, slice_get-get_or}
 use Rattle.std.proofs.Math.Seq.{drop-cons}
 use Rattle.std.proofs.Math.ListN.{drop_of_length-le}
@@ -10,10 +10,10 @@ use Rattle.c_parts.specs.declared.terminal.Terminal.{Terminal}
 use Rattle.c_parts.specs.declared.terminal.Terminal.TheVariants as t
 use Rattle.c_parts.specs.declared.lexeme.Lexeme.{Lexeme}
 use Rattle.c_parts.specs.Scopes.{State, next}
-use Rattle.c_parts.specs.Terminals.{code, is}
+use Rattle.c_parts.specs.Terminals.{is}
 use Rattle.c_cursor.specs.Input.{behind, lines_of}
-use Rattle.c_parts.specs.Kinds.{kind, kind_of, Kinds, has_code, member, has, told}
-use Rattle.c_parts.specs.Reading.{Test, ahead, ahead_two, Answer, Took, Refused, Syntax, accept, take_one}
+use Rattle.c_parts.specs.Kinds.{kind, kind_of, Kinds, member, has, told}
+use Rattle.c_parts.specs.Reading.{Test, ahead, ahead_two, Took, Refused, Syntax, accept, take_one}
 
 pub kind_other : (named typed : Bool) (behind x : Terminal) → (x ≡ t.Name → ⊥) → (x ≡ t.LeftParen → ⊥) → (x ≡ t.Comma → ⊥) → kind_of named typed behind x ≡ x
 kind_other named typed behind t.Name a b c = absurd (a refl)

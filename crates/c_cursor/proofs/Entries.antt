@@ -1,9 +1,9 @@
 -- One more entry, and one less.
-use Rattle.std.proofs.Common.{◌≡◌, ℕ, zero, suc, ◌+◌, ◌-◌, ◌≤◌, ◌<◌, Bool, true, false, cond, List, [], ◌∷◌, ◌++◌, length, get_or, refl, sym, ap, ◌∙◌, subst, arith, length-append}
+use Rattle.std.proofs.Common.{◌≡◌, ℕ, zero, suc, ◌+◌, ◌-◌, ◌≤◌, ◌<◌, Bool, true, false, cond, List, [], ◌∷◌, ◌++◌, length, get_or, refl, sym, ap, ◌∙◌, subst, arith}
 use Rattle.std.proofs.lemmas.Option.{unwrap_or-slice_get}
 use Rattle.std.proofs.lemmas.List.{get_or-set_same, get_or-set_other}
 use Rattle.std.proofs.lemmas.Bool.{eqb-true, eq-eqb}
-use Rattle.std.specs.Prelude.{◌||◌, ◌&&◌, eqb, unwrap_or, slice_get, slice_set, take, replicate}
+use Rattle.std.specs.Prelude.{◌||◌, ◌&&◌, eqb, slice_set, replicate}
 use Rattle.c_parts.specs.declared.lexeme.Binding.{Binding}
 use Rattle.c_parts.specs.Scopes.{Scope, declares_name, declares_typedef, with_names, outer_scopes, innermost}
 use Rattle.c_cursor.specs.declared.names.Meaning.{Meaning}

@@ -1,5 +1,5 @@
 -- What a cursor shows.
-use Rattle.std.specs.Prelude.{◌≡◌, ◌≤◌, ◌<◌, ◌^◌, length, drop}
+use Rattle.std.specs.Prelude.{◌≤◌, ◌<◌, ◌^◌, length, drop}
 use Rattle.c_cursor.specs.declared.cursor.Cursor.TheInside.{Inside}
 use Rattle.c_cursor.specs.Input.{Input, lines_of}
 

@@ -1,7 +1,6 @@
 -- What the table and the undo list stand for.
-use Rattle.std.specs.Prelude.{◌≡◌, ℕ, ◌+◌, Bool, true, false, cond, List, [], ◌∷◌, length, Option, Some, None, slice_get, unwrap_or}
-use Rattle.c_parts.specs.declared.lexeme.Binding.{Binding}
-use Rattle.c_parts.specs.Scopes.{Scope, declares_name, declares_typedef, is_typedef, with_names}
+use Rattle.std.specs.Prelude.{◌≡◌, ℕ, ◌+◌, true, false, if◌then◌else◌, List, [], ◌∷◌, length, slice_get, unwrap_or}
+use Rattle.c_parts.specs.Scopes.{Scope, declares_name, declares_typedef, with_names}
 use Rattle.c_cursor.specs.declared.names.Meaning.{Meaning}
 use Rattle.c_cursor.specs.declared.names.Entry.{Entry}
 use Rattle.c_cursor.specs.declared.names.Entry.TheVariants.{Opens, Binds}
@@ -25,7 +24,7 @@ unknown = record { is_declared = false; depth = 0; is_typedef = false }
 
 abbrev pub meaning : ℕ → List Scope → Meaning
 meaning x [] = unknown
-meaning x (scope ∷ outer) = cond (declares_name x scope) (record { is_declared = true; depth = length outer; is_typedef = declares_typedef x scope }) (meaning x outer)
+meaning x (scope ∷ outer) = if declares_name x scope then record { is_declared = true; depth = length outer; is_typedef = declares_typedef x scope } else meaning x outer
 
 abbrev pub meaning_at : List Meaning → ℕ → Meaning
 meaning_at table x = unwrap_or (slice_get table x) unknown

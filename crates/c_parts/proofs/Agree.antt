@@ -1,12 +1,12 @@
 -- Readers at two levels of nesting answer alike, unless the lower one answers that it is too deep, and then the higher one goes on.
-use Rattle.std.proofs.Common.{◌≡◌, ℕ, zero, suc, ◌+◌, ◌≤◌, ◌<◌, Bool, true, false, cond, List, [], ◌∷◌, ◌++◌, ◌⊎◌, inl, inr, length, refl, sym, ap, ◌∙◌, subst, arith, length-append, append_assoc, append-nil}
+use Rattle.std.proofs.Common.{◌≡◌, ℕ, zero, suc, ◌≤◌, Bool, true, false, cond, List, [], ◌∷◌, ◌++◌, ◌⊎◌, inl, inr, length, refl, sym, ap, ◌∙◌, subst, arith}
 use Rattle.std.specs.Prelude.{Option, Some, None, ◌&&◌}
 use Rattle.c_parts.specs.declared.lexeme.Lexeme.{Lexeme}
-use Rattle.c_parts.specs.Scopes.{State, next, outer_scopes}
-use Rattle.c_parts.specs.Part.{Part, OneSpells, OneFront, one, TurnSpells, TurnFront, ◌&>◌, ◌⊔◌, ShapedSpells, shaped, MoreSpells, ManySpells, ManyFront, many, nothing, never, Stops}
-use Rattle.c_parts.specs.Reading.{Why, Syntax, Deep, Answer, Took, Refused, Reader, Test, left_of, and_then, pure, ◌>>=◌, ahead, accept, take_one, in_turn_by, either, shape_of, reshape, times, repeat, in_turn, carried, either_two, ahead_two, refuse, deep_if}
-use Rattle.c_parts.proofs.Laws.{Taken, Sound, Reached, Opens, Reads, Solid, left-nil, right-nil, shrinks, none-taken, left-second, left-shrinks}
-use Rattle.c_parts.proofs.Many.{Repeats, many-reached, more-left, again-shrinks}
+use Rattle.c_parts.specs.Scopes.{State}
+use Rattle.c_parts.specs.Part.{Part}
+use Rattle.c_parts.specs.Reading.{Why, Syntax, Deep, Answer, Took, Refused, Reader, Test, left_of, and_then, pure, ◌>>=◌, ahead, accept, take_one, in_turn_by, either, shape_of, reshape, times, repeat, carried, either_two, ahead_two, refuse, deep_if}
+use Rattle.c_parts.proofs.Laws.{Sound, Reached, Opens, Reads, Solid, shrinks, left-second, left-shrinks}
+use Rattle.c_parts.proofs.Many.{Repeats, more-left, again-shrinks}
 
 pub record Deeper {X : Type 0} (a b : Answer X) : Type 0 where
   pub token : Lexeme

@@ -1,11 +1,11 @@
 -- One part, or a part of it and more behind: both kept apart in the grammar, and read by one reader.
-use Rattle.std.proofs.Common.{◌≡◌, ℕ, zero, suc, ◌+◌, ◌≤◌, ◌<◌, Bool, true, false, cond, List, [], ◌∷◌, ◌++◌, ◌⊎◌, inl, inr, length, refl, sym, ap, ◌∙◌, subst, arith, length-append, append_assoc, append-nil}
-use Rattle.std.specs.Prelude.{Option, Some, None, ◌&&◌}
+use Rattle.std.proofs.Common.{◌≡◌, ◌≤◌, Bool, true, false, cond, List, [], ◌∷◌, ◌++◌, ◌⊎◌, inl, inr, length, refl, sym, ap, ◌∙◌, subst, arith, append_assoc, append-nil}
+use Rattle.std.specs.Prelude.{◌&&◌}
 use Rattle.c_parts.specs.declared.lexeme.Lexeme.{Lexeme}
-use Rattle.c_parts.specs.Scopes.{State, next, outer_scopes}
-use Rattle.c_parts.specs.Part.{Part, made, OneSpells, OneFront, one, TurnSpells, TurnFront, ◌&>◌, ◌⊔◌, ShapedSpells, shaped, MoreSpells, ManySpells, ManyFront, many, nothing, never, Stops}
-use Rattle.c_parts.specs.Reading.{Why, Syntax, Deep, Answer, Took, Refused, Reader, Test, left_of, and_then, pure, ◌>>=◌, ahead, accept, take_one, in_turn_by, either, shape_of, reshape, times, repeat, carried, refuse, deep_if}
-use Rattle.c_parts.proofs.Laws.{Taken, Sound, Reached, Opens, Reads, Solid, left-nil, right-nil, shrinks, Within, Beyond, split, none-taken}
+use Rattle.c_parts.specs.Scopes.{State, outer_scopes}
+use Rattle.c_parts.specs.Part.{Part, made, ◌&>◌, ◌⊔◌}
+use Rattle.c_parts.specs.Reading.{Syntax, Deep, Answer, Took, Refused, Reader, Test, left_of, and_then, pure, ahead, carried}
+use Rattle.c_parts.proofs.Laws.{Taken, Sound, Reached, Opens, Reads, Solid, left-nil, shrinks, Within, Beyond, split, none-taken}
 
 -- p, or q and then a, where each q is a p, and a value tells whether it is a q.
 pub record Carries {A B : Type 0} (p q : Part A) (a : Part B) (lone : A → Bool) (gp ops ga goes_on : Test) : Type 0 where

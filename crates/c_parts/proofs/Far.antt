@@ -1,11 +1,10 @@
 -- One part as far as it goes, and then another: no condition on what begins the second.
-use Rattle.std.proofs.Common.{◌≡◌, ℕ, zero, suc, ◌+◌, ◌≤◌, ◌<◌, Bool, true, false, cond, List, [], ◌∷◌, ◌++◌, ◌⊎◌, inl, inr, length, refl, sym, ap, ◌∙◌, subst, arith, length-append, append_assoc, append-nil}
-use Rattle.std.specs.Prelude.{Option, Some, None}
+use Rattle.std.proofs.Common.{◌≡◌, ◌≤◌, Bool, true, false, cond, List, [], ◌∷◌, ◌++◌, ◌⊎◌, inl, inr, length, refl, sym, ap, ◌∙◌, subst, append_assoc, append-nil}
 use Rattle.c_parts.specs.declared.lexeme.Lexeme.{Lexeme}
-use Rattle.c_parts.specs.Scopes.{State, next, outer_scopes}
-use Rattle.c_parts.specs.Part.{Part, OneSpells, OneFront, one, TurnSpells, TurnFront, ◌&>◌, ◌⊔◌, ShapedSpells, shaped, MoreSpells, ManySpells, ManyFront, many, nothing, never, Stops, FarSpells, FarFront, ◌>&◌}
-use Rattle.c_parts.specs.Reading.{Why, Syntax, Deep, Answer, Took, Refused, Reader, Test, left_of, and_then, pure, ◌>>=◌, ahead, accept, take_one, in_turn_by, in_turn, either, shape_of, reshape, times, repeat, refuse, deep_if}
-use Rattle.c_parts.proofs.Laws.{Taken, Sound, Reached, Opens, Reads, Solid, left-nil, right-nil, shrinks, Within, Beyond, split, none-taken, stopped, left-second, left-shrinks, turn-short, Joins, Parts, Shapes}
+use Rattle.c_parts.specs.Scopes.{State}
+use Rattle.c_parts.specs.Part.{Part, ◌&>◌, ◌⊔◌, shaped, Stops, ◌>&◌}
+use Rattle.c_parts.specs.Reading.{Syntax, Deep, Answer, Took, Refused, Reader, Test, left_of, and_then, pure, ◌>>=◌, ahead, in_turn_by, in_turn, either, shape_of, reshape}
+use Rattle.c_parts.proofs.Laws.{Taken, Sound, Reached, Opens, Reads, Solid, left-nil, shrinks, Within, Beyond, split, none-taken, stopped, left-second, turn-short, Joins, Parts}
 
 pub stops-at-once : {X : Type 0} (p : Part X) (n : State) (us g rest : List Lexeme) → Stops p n us (g ++ rest) → Stops p n us g
 stops-at-once p n us [] rest h = tt

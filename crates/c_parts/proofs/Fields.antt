@@ -1,15 +1,15 @@
 -- What stands one deeper, at two levels of nesting, and where nothing may be open.
-use Rattle.std.proofs.Common.{◌≡◌, ℕ, Bool, true, false, cond, List, [], ◌∷◌, ◌++◌, ◌⊎◌, inl, inr, length, refl, sym, ap, ◌∙◌, subst}
-use Rattle.std.specs.Prelude.{Option, Some, None, ◌||◌, ◌&&◌, eqb}
+use Rattle.std.proofs.Common.{◌≡◌, ℕ, Bool, true, false, List, [], ◌∷◌, ◌++◌, ◌⊎◌, inl, inr, refl, subst}
+use Rattle.std.specs.Prelude.{◌||◌, eqb}
 use Rattle.c_parts.specs.declared.lexeme.Lexeme.{Lexeme}
 use Rattle.c_parts.specs.Scopes.{State}
 use Rattle.c_parts.specs.Terminals.{code}
 use Rattle.c_parts.specs.Kinds.{kind, Kinds, has_code, has, subset}
 use Rattle.c_parts.specs.Part.{Part, ◌&>◌, ◌⊔◌, shaped, never}
 use Rattle.c_parts.specs.Reading.{Reader, ahead}
-use Rattle.c_parts.specs.Production.{Shape, Production, token, sign, ◌&◌, ◌or◌, made, Nested, nested, opened, outside, said}
+use Rattle.c_parts.specs.Production.{Shape, Production, token, Nested, nested, opened, outside, said}
 use Rattle.c_parts.proofs.Laws.{Reads, Solid, never-reads}
-use Rattle.c_parts.proofs.Agree.{Agrees, Alone, loose-agrees, room-agrees}
+use Rattle.c_parts.proofs.Agree.{Alone, loose-agrees, room-agrees}
 use Rattle.c_parts.proofs.Sets.{subset-in, subset-out}
 use Rattle.c_parts.proofs.Whole.{Whole}
 use Rattle.c_parts.proofs.Good.{Good}

@@ -1,21 +1,17 @@
 -- A production at two levels of nesting: it is whole at both, and its readers agree.
-use Rattle.std.proofs.Common.{◌≡◌, ℕ, Bool, true, false, cond, List, [], ◌∷◌, ◌++◌, ◌⊎◌, inl, inr, refl, sym, ap, ◌∙◌, subst}
-use Rattle.std.specs.Prelude.{Option, Some, None, ◌||◌, ◌&&◌}
-use Rattle.c_parts.specs.declared.terminal.Terminal.{Terminal}
-use Rattle.c_parts.specs.declared.terminal.Terminal.TheVariants as t
+use Rattle.std.proofs.Common.{◌≡◌, Bool, true, false, [], ◌++◌, refl, sym, ap, ◌∙◌, subst}
+use Rattle.std.specs.Prelude.{Some, None, ◌||◌}
 use Rattle.c_parts.specs.declared.lexeme.Lexeme.{Lexeme}
-use Rattle.c_parts.specs.Scopes.{State, Scope, next, with_scopes, with_names, with_specifiers, entered, innermost}
+use Rattle.c_parts.specs.Scopes.{Scope, with_scopes, with_names, with_specifiers, entered, innermost}
 use Rattle.c_parts.specs.Terminals.{code}
-use Rattle.c_parts.specs.Kinds.{kind, Kinds, has_code, member, has, IsToken, told, disjoint, subset}
-use Rattle.c_parts.specs.Part.{Part, one, ◌&>◌, ◌⊔◌, shaped, never}
+use Rattle.c_parts.specs.Kinds.{kind, Kinds, has, told, disjoint, subset}
 use Rattle.c_parts.specs.Reading.{Reader, either, pure}
-use Rattle.c_parts.specs.Production.{Shape, Production, lexeme, token, sign, mark, ◌&◌, ◌or◌, joined, either_shape, two_of, told_apart, made, spanned, span_of, many, nothing, optional, declares, scoped_with, scoped, collected, specifies, specified, with_typedefs, with_all_names, Nested, nested, opened, outside, carries}
-use Rattle.c_parts.proofs.Laws.{Reads, Solid, nothing-reads, never-reads}
-use Rattle.c_parts.proofs.Many.{Repeats}
+use Rattle.c_parts.specs.Production.{Shape, Production, lexeme, token, ◌&◌, ◌or◌, joined, either_shape, two_of, told_apart, made, spanned, span_of, many, nothing, optional, declares, scoped_with, scoped, collected, specifies, specified, with_typedefs, with_all_names, carries}
+use Rattle.c_parts.proofs.Laws.{Reads}
 use Rattle.c_parts.proofs.Carry.{Carries}
-use Rattle.c_parts.proofs.Agree.{Agrees, Alone, loose-agrees, same-agrees, one-agrees, turn-agrees, either-agrees, either-two-agrees, shaped-agrees, many-agrees, carry-agrees, room-agrees}
+use Rattle.c_parts.proofs.Agree.{Agrees, same-agrees, one-agrees, turn-agrees, either-agrees, either-two-agrees, shaped-agrees, many-agrees, carry-agrees}
 use Rattle.c_parts.proofs.Sets.{disjoint-out, out-left, out-right}
-use Rattle.c_parts.proofs.Whole.{Whole, lexeme-whole, and-whole, or-whole, made-whole, spanned-whole, declares-whole, scoped-whole, scoped-with-whole, collected-whole, specifies-whole, specified-whole, many-whole, nothing-whole, optional-whole, carries-whole}
+use Rattle.c_parts.proofs.Whole.{Whole, lexeme-whole, and-whole, or-whole, made-whole, spanned-whole, declares-whole, scoped-whole, scoped-with-whole, collected-whole, specifies-whole, specified-whole, many-whole, nothing-whole, carries-whole}
 use Rattle.c_parts.proofs.Openings.{paren, Opening, Declines, Shares, told-apart-whole}
 
 pub record Good {X : Type 0} (strict : Bool) (a b : Production X) : Type 0 where

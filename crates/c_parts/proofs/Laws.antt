@@ -1,10 +1,10 @@
 -- What a reader owes to its part of the grammar, and that each way to put parts together keeps it.
-use Rattle.std.proofs.Common.{◌≡◌, ℕ, zero, suc, ◌+◌, ◌≤◌, ◌<◌, Bool, true, false, cond, List, [], ◌∷◌, ◌++◌, ◌⊎◌, inl, inr, length, refl, sym, ap, ◌∙◌, subst, arith, length-append, append_assoc, append-nil}
+use Rattle.std.proofs.Common.{◌≡◌, suc, ◌+◌, ◌≤◌, Bool, true, false, cond, List, [], ◌∷◌, ◌++◌, ◌⊎◌, inl, inr, length, refl, sym, ap, ◌∙◌, subst, arith, length-append, append_assoc, append-nil}
 use Rattle.std.specs.Prelude.{Option, Some, None}
 use Rattle.c_parts.specs.declared.lexeme.Lexeme.{Lexeme}
 use Rattle.c_parts.specs.Scopes.{State, next, outer_scopes}
-use Rattle.c_parts.specs.Part.{Part, OneSpells, OneFront, one, TurnSpells, TurnFront, ◌&>◌, ◌⊔◌, ShapedSpells, shaped, MoreSpells, ManySpells, ManyFront, many, nothing, never, Stops}
-use Rattle.c_parts.specs.Reading.{Why, Syntax, Deep, Answer, Took, Refused, Reader, Test, left_of, and_then, pure, ◌>>=◌, ahead, accept, take_one, in_turn_by, either, shape_of, reshape, times, repeat, refuse, deep_if}
+use Rattle.c_parts.specs.Part.{Part, OneFront, one, ◌&>◌, ◌⊔◌, shaped, nothing, never, Stops}
+use Rattle.c_parts.specs.Reading.{Syntax, Deep, Answer, Took, Refused, Reader, Test, left_of, and_then, pure, ◌>>=◌, ahead, accept, take_one, in_turn_by, either, shape_of, reshape, refuse, deep_if}
 
 -- The value is spelled by the tokens that were taken.
 pub record Taken {X : Type 0} (p : Part X) (n : State) (ts : List Lexeme) (x : X) (rest : List Lexeme) (m : State) : Type 0 where

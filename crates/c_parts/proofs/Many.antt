@@ -1,12 +1,11 @@
 -- Any number of a part.
-use Rattle.std.proofs.Common.{◌≡◌, ℕ, zero, suc, ◌+◌, ◌≤◌, ◌<◌, Bool, true, false, cond, List, [], ◌∷◌, ◌++◌, ◌⊎◌, inl, inr, length, refl, sym, ap, ◌∙◌, subst, arith, length-append, append_assoc, append-nil}
-use Rattle.std.specs.Prelude.{Option, Some, None}
+use Rattle.std.proofs.Common.{◌≡◌, ℕ, zero, suc, ◌+◌, ◌≤◌, Bool, true, false, cond, List, [], ◌∷◌, ◌++◌, inl, inr, length, refl, sym, ap, ◌∙◌, subst, arith, length-append, append_assoc, append-nil}
 use Rattle.c_parts.specs.declared.lexeme.Lexeme.{Lexeme}
-use Rattle.c_parts.specs.Scopes.{State, next, outer_scopes}
-use Rattle.c_parts.specs.Part.{Part, OneSpells, OneFront, one, TurnSpells, TurnFront, ◌&>◌, ◌⊔◌, ShapedSpells, shaped, MoreSpells, ManySpells, ManyFront, many, nothing, never, Stops}
-use Rattle.c_parts.specs.Reading.{Why, Syntax, Deep, Answer, Took, Refused, Reader, Test, left_of, and_then, pure, ◌>>=◌, ahead, accept, take_one, in_turn_by, either, shape_of, reshape, times, repeat, refuse, deep_if}
+use Rattle.c_parts.specs.Scopes.{State, outer_scopes}
+use Rattle.c_parts.specs.Part.{Part, ManySpells, ManyFront, many}
+use Rattle.c_parts.specs.Reading.{Syntax, Deep, Answer, Took, Refused, Reader, Test, left_of, and_then, pure, ◌>>=◌, ahead, times, repeat}
 use Rattle.c_parts.proofs.Far.{Hangs}
-use Rattle.c_parts.proofs.Laws.{Taken, Sound, Reached, Opens, Reads, Solid, left-nil, right-nil, shrinks, Within, Beyond, split}
+use Rattle.c_parts.proofs.Laws.{Taken, Sound, Reached, Opens, Reads, Solid, left-nil, shrinks, split}
 
 -- ---- any number of a part
 

@@ -1,14 +1,14 @@
 -- Parts that begin with a parenthesis, told apart by the token behind it.
-use Rattle.std.proofs.Common.{◌≡◌, ℕ, Bool, true, false, cond, List, [], ◌∷◌, ◌++◌, ◌⊎◌, inl, inr, refl, sym, ap, ◌∙◌, subst, append-nil}
-use Rattle.std.specs.Prelude.{Option, Some, None, ◌||◌, ◌&&◌, not}
+use Rattle.std.proofs.Common.{◌≡◌, Bool, true, false, List, [], ◌∷◌, ◌++◌, inl, inr, refl, sym, ap, ◌∙◌, subst}
+use Rattle.std.specs.Prelude.{◌&&◌}
 use Rattle.c_parts.specs.declared.terminal.Terminal.TheVariants as t
 use Rattle.c_parts.specs.declared.lexeme.Lexeme.{Lexeme}
 use Rattle.c_parts.specs.Scopes.{State, next}
 use Rattle.c_parts.specs.Terminals.{code}
-use Rattle.c_parts.specs.Kinds.{kind, Kinds, has_code, member, has, IsToken, disjoint, subset}
+use Rattle.c_parts.specs.Kinds.{kind, Kinds, has, disjoint, subset}
 use Rattle.c_parts.specs.Part.{Part, one, ◌&>◌, ◌⊔◌, shaped}
 use Rattle.c_parts.specs.Production.{Production, token, sign, mark, ◌&◌, two_of, told_apart}
-use Rattle.c_parts.proofs.Laws.{Solid, left-nil}
+use Rattle.c_parts.proofs.Laws.{Solid}
 use Rattle.c_parts.proofs.Look.{Looks, looking}
 use Rattle.c_parts.proofs.Sets.{disjoint-out, subset-in, out-left, out-right, both-ways}
 use Rattle.c_parts.proofs.Whole.{Whole}

@@ -1,12 +1,12 @@
 -- What an answer at one level says of the grammar with no bound on nesting.
-use Rattle.std.proofs.Common.{◌≡◌, ℕ, zero, suc, ◌+◌, ◌≤◌, ◌<◌, Bool, true, false, cond, List, [], ◌∷◌, ◌++◌, ◌⊎◌, inl, inr, length, refl, sym, ap, ◌∙◌, subst, arith, append-nil, append_assoc, length-append}
+use Rattle.std.proofs.Common.{◌≡◌, ℕ, zero, suc, ◌+◌, ◌≤◌, ◌<◌, true, false, List, [], ◌∷◌, ◌++◌, ◌⊎◌, inl, inr, length, refl, sym, ap, ◌∙◌, subst, arith, append-nil, append_assoc, length-append}
 use Rattle.std.specs.Prelude.{◌&&◌}
 use Rattle.c_parts.specs.declared.lexeme.Lexeme.{Lexeme}
-use Rattle.c_parts.specs.Scopes.{State, next, outer_scopes}
+use Rattle.c_parts.specs.Scopes.{State}
 use Rattle.c_parts.specs.Part.{Part}
-use Rattle.c_parts.specs.Reading.{Reader, Test, Why, Answer, Took, Refused, Syntax, Deep, left_of}
-use Rattle.c_parts.proofs.Laws.{Reads, Sound, Taken, Reached, Within, Beyond, split}
-use Rattle.c_parts.proofs.Agree.{Agree, Agrees, Deeper, is_deep}
+use Rattle.c_parts.specs.Reading.{Reader, Test, Answer, Took, Refused, Syntax, Deep, left_of}
+use Rattle.c_parts.proofs.Laws.{Reads, Sound, Taken, Within, Beyond, split, stopped}
+use Rattle.c_parts.proofs.Agree.{Agree, Agrees, is_deep}
 
 -- at least two more
 abbrev pub above : ℕ → ℕ → ℕ
@@ -37,6 +37,9 @@ module _ {X : Type 0} {starts goes_on : Test} (p : ℕ → Part X) (r : ℕ → 
     (agrees : (d k : ℕ) → Agrees true (r d) (r (above d k))) where
   not-deep : (a b : Answer X) (rest : List Lexeme) → a ≡ Refused Syntax rest → Agree true a b → b ≡ Refused Syntax rest
   not-deep a b rest e h = elim h [ inl s ↦ sym s.1 ∙ e | inr d ↦ absurd (let f : false ≡ true = sym (ap is_deep e) ∙ ap is_deep d.deep in cc) ]
+
+  not-deep-took : (a b : Answer X) (x : X) (rest : List Lexeme) (m : State) → a ≡ Took x rest m → Agree true a b → b ≡ Took x rest m
+  not-deep-took a b x rest m e h = elim h [ inl s ↦ sym s.1 ∙ e | inr d ↦ absurd (let f : false ≡ true = sym (ap is_deep e) ∙ ap is_deep d.deep in cc) ]
 
   -- Where nothing is left at the lower level, the higher one answers the same.
   all-taken : (a b : Answer X) → length (left_of a) ≤ 0 → Agree true a b → a ≡ b
@@ -93,6 +96,13 @@ module _ {X : Type 0} {starts goes_on : Test} (p : ℕ → Part X) (r : ℕ → 
       let grown : (p (above d k)).Spells n ts x m = subst (λ l. (p l).Spells n ts x m) (above-swap k d) (spells-grows k d n ts x m h) in
       let took : r (above d k) n ts ≡ Took x [] m = subst (λ l. r (above d k) n l ≡ Took x [] m) (append-nil ts) ((reads (above d k)).complete n ts x m [] grown refl) in
       let f : Took x [] m ≡ Refused Syntax rest = sym took ∙ high in cc
+
+  -- Where a value was taken, no front at any level goes on with the next token.
+  pub taken-stops : (d : ℕ) (n : State) (us rest : List Lexeme) (t : Lexeme) (x : X) (m : State) → r d n (us ++ (t ∷ rest)) ≡ Took x (t ∷ rest) m → (e : ℕ) → (p e).Front n (us ++ (t ∷ [])) → ⊥
+  taken-stops d n us rest t x m e k h =
+      let high : r (above d k) n (us ++ (t ∷ rest)) ≡ Took x (t ∷ rest) m = not-deep-took (r d n (us ++ (t ∷ rest))) (r (above d k) n (us ++ (t ∷ rest))) x (t ∷ rest) m e ((agrees d k).agree n (us ++ (t ∷ rest))) in
+      let grown : (p (above d k)).Front n (us ++ (t ∷ [])) = subst (λ l. (p l).Front n (us ++ (t ∷ []))) (above-swap k d) (front-grows k d n (us ++ (t ∷ [])) h) in
+      stopped (reads (above d k)) n us x (t ∷ rest) m high grown
 
   goes-past : (a b : Answer X) (rest : List Lexeme) → a ≡ Refused Deep rest → Agree true a b → length (left_of b) < length rest
   goes-past a b rest e h = elim h [

@@ -1,22 +1,17 @@
 -- The laws again, for productions: their conditions compute from the shapes.
-use Rattle.std.proofs.Common.{◌≡◌, ℕ, ◌-◌, Bool, true, false, cond, List, [], ◌∷◌, ◌++◌, ◌⊎◌, inl, inr, refl, sym, ap, ◌∙◌, subst, append-nil}
-use Rattle.std.specs.Prelude.{Option, Some, None, ◌||◌, ◌&&◌, not}
-use Rattle.c_parts.specs.declared.terminal.Terminal.{Terminal}
-use Rattle.c_parts.specs.declared.terminal.Terminal.TheVariants as t
+use Rattle.std.proofs.Common.{◌≡◌, ℕ, Bool, true, false, cond, List, [], ◌∷◌, ◌++◌, inl, inr, refl, sym, ap, ◌∙◌, subst}
+use Rattle.std.specs.Prelude.{Some, None, ◌||◌, ◌&&◌}
 use Rattle.c_parts.specs.declared.lexeme.Lexeme.{Lexeme}
-use Rattle.c_parts.specs.declared.span.Span.{Span}
-use Rattle.c_parts.specs.Scopes.{State, Scope, next, with_scopes, with_names, with_specifiers, entered, innermost, outer_scopes}
+use Rattle.c_parts.specs.Scopes.{State, Scope, with_names, with_specifiers, entered, outer_scopes}
 use Rattle.c_parts.specs.Terminals.{code}
-use Rattle.c_parts.specs.Kinds.{kind, Kinds, has_code, member, has, IsToken, told, disjoint, subset}
-use Rattle.c_parts.specs.Part.{Part, one, ◌&>◌, ◌⊔◌, shaped, TurnSpells}
-use Rattle.c_parts.specs.Part as part
+use Rattle.c_parts.specs.Kinds.{kind, Kinds, has_code, has, disjoint}
+use Rattle.c_parts.specs.Part.{Part, ◌&>◌, ◌⊔◌}
 use Rattle.c_parts.specs.Reading.{Reader, Test, take_one, pure, ahead, ahead_two}
-use Rattle.c_parts.specs.Production.{Shape, Production, lexeme, token, ◌&◌, ◌or◌, joined, two_of, told_apart, made, spanned, span_of, many, nothing, optional, declares, scoped_with, scoped, collected, specifies, specified, with_typedefs, with_all_names, Nested, opened, carries}
-use Rattle.c_parts.proofs.Laws.{Reads, Solid, Joins, turn, Parts, choice, Shapes, shaping, Tells, single, solid-one, left-nil, right-nil, nothing-reads}
-use Rattle.c_parts.proofs.Many.{Repeats, repeating}
+use Rattle.c_parts.specs.Production.{Shape, Production, lexeme, token, ◌&◌, ◌or◌, joined, made, spanned, many, nothing, optional, declares, scoped_with, scoped, collected, specifies, specified, carries}
+use Rattle.c_parts.proofs.Laws.{Reads, Solid, Joins, turn, choice, shaping, single, solid-one, left-nil, right-nil, nothing-reads}
+use Rattle.c_parts.proofs.Many.{repeating}
 use Rattle.c_parts.proofs.Carry.{Carries, carrying}
-use Rattle.c_parts.proofs.Look.{Test2, Looks, looking}
-use Rattle.c_parts.proofs.Sets.{disjoint-out, subset-in, subset-out, in-left, in-right, out-left, out-right, has-entered, has-typedefs, lacks-typedefs, has-names, lacks-names, both}
+use Rattle.c_parts.proofs.Sets.{disjoint-out, in-left, in-right, out-left, out-right, has-entered, has-typedefs, lacks-typedefs, has-names, lacks-names, both}
 
 abbrev pub ReadsAs : {X : Type 0} → Part X → Shape → Reader X → Type 0
 ReadsAs p s r = Reads p (has s.starts) (has s.goes_on) r

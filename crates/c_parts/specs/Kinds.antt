@@ -1,5 +1,5 @@
 -- What a token is where it stands, and sets of terminals.
-use Rattle.std.specs.Prelude.{◌≡◌, ℕ, Bool, true, false, cond, not, ◌||◌, ◌&&◌, eqb, List, [], ◌∷◌, Option, Some, None}
+use Rattle.std.specs.Prelude.{◌≡◌, ℕ, Bool, true, false, if◌then◌else◌, not, ◌||◌, ◌&&◌, eqb, List, [], ◌∷◌, Option, Some, None}
 use Rattle.c_parts.specs.declared.terminal.Terminal.{Terminal}
 use Rattle.c_parts.specs.declared.terminal.Terminal.TheVariants as t
 use Rattle.c_parts.specs.declared.lexeme.Lexeme.{Lexeme}
@@ -9,9 +9,9 @@ use Rattle.c_parts.specs.Scopes.{State, is_typedef}
 -- A name is a terminal of its own where it is a typedef, and so are a parenthesis behind `_Atomic` and a comma behind
 -- a comma.
 abbrev pub kind_of : Bool → Bool → Terminal → Terminal → Terminal
-kind_of named typed behind t.Name = cond named (cond typed t.TypedefBehindType t.TypedefName) t.Name
-kind_of named typed behind t.LeftParen = cond (is behind t.Atomic) t.AtomicParen t.LeftParen
-kind_of named typed behind t.Comma = cond (is behind t.Comma) t.SecondComma t.Comma
+kind_of named typed behind t.Name = if named then (if typed then t.TypedefBehindType else t.TypedefName) else t.Name
+kind_of named typed behind t.LeftParen = if is behind t.Atomic then t.AtomicParen else t.LeftParen
+kind_of named typed behind t.Comma = if is behind t.Comma then t.SecondComma else t.Comma
 kind_of named typed behind terminal = terminal
 
 -- what a token is where it stands
@@ -37,7 +37,7 @@ abbrev pub IsToken : Kinds → State → Lexeme → Lexeme → Type 0
 IsToken ks n token x = (has ks n token ≡ true) × (x ≡ token)
 
 abbrev pub told : Kinds → State → Lexeme → Option Lexeme
-told ks n token = cond (has ks n token) (Some token) None
+told ks n token = if has ks n token then Some token else None
 
 -- no kind is in both
 abbrev pub disjoint : Kinds → Kinds → Bool

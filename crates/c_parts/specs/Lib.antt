@@ -4,3 +4,4 @@ pub mod Kinds
 pub mod Part
 pub mod Reading
 pub mod Production
+pub mod Following

@@ -1,6 +1,6 @@
 -- Productions: a part of the grammar with what reads it, and the terminals that this goes by. Each way to join parts is
 -- one to join productions.
-use Rattle.std.specs.Prelude.{◌≡◌, ℕ, ◌-◌, Bool, true, false, cond, ◌||◌, ◌&&◌, List, [], ◌∷◌, ◌++◌, slice_index, Option, Some, None}
+use Rattle.std.specs.Prelude.{ℕ, ◌-◌, Bool, true, false, if◌then◌else◌, ◌||◌, ◌&&◌, List, [], ◌∷◌, ◌++◌, slice_index, Option, Some, None}
 use Rattle.c_parts.specs.declared.terminal.Terminal.{Terminal}
 use Rattle.c_parts.specs.declared.terminal.Terminal.TheVariants as t
 use Rattle.c_parts.specs.declared.lexeme.Lexeme.{Lexeme}
@@ -33,8 +33,8 @@ lexeme ks = record { part = one (IsToken ks); read = take_one (told ks); shape =
 
 abbrev pub joined : Shape → Shape → Shape
 joined a b = record {
-  starts = cond a.solid a.starts (a.starts ++ b.starts);
-  goes_on = cond b.solid b.goes_on (b.goes_on ++ a.goes_on);
+  starts = if a.solid then a.starts else (a.starts ++ b.starts);
+  goes_on = if b.solid then b.goes_on else (b.goes_on ++ a.goes_on);
   solid = a.solid || b.solid;
 }
 
@@ -45,7 +45,7 @@ a & b = record { part = a.part &> (λ x. b.part); read = in_turn a.read b.read; 
 -- ---- either of two
 
 abbrev pub either_shape : Shape → Shape → Shape
-either_shape a b = record { starts = a.starts ++ b.starts; goes_on = a.goes_on ++ cond b.solid b.goes_on (b.goes_on ++ a.starts); solid = a.solid && b.solid }
+either_shape a b = record { starts = a.starts ++ b.starts; goes_on = a.goes_on ++ (if b.solid then b.goes_on else (b.goes_on ++ a.starts)); solid = a.solid && b.solid }
 
 infixr 5 ◌or◌
 abbrev pub ◌or◌ : {A : Type 0} → Production A → Production A → Production A
@@ -112,11 +112,11 @@ optional a = made Some a or nothing None
 
 -- with both terminals that a typedef can be, where one is there
 abbrev pub with_typedefs : Kinds → Kinds
-with_typedefs ks = cond (member t.TypedefName ks || member t.TypedefBehindType ks) (t.TypedefName ∷ t.TypedefBehindType ∷ ks) ks
+with_typedefs ks = if member t.TypedefName ks || member t.TypedefBehindType ks then t.TypedefName ∷ t.TypedefBehindType ∷ ks else ks
 
 -- with all three that a name can be, where one is there
 abbrev pub with_all_names : Kinds → Kinds
-with_all_names ks = cond (member t.Name ks || (member t.TypedefName ks || member t.TypedefBehindType ks)) (t.Name ∷ t.TypedefName ∷ t.TypedefBehindType ∷ ks) ks
+with_all_names ks = if member t.Name ks || (member t.TypedefName ks || member t.TypedefBehindType ks) then t.Name ∷ t.TypedefName ∷ t.TypedefBehindType ∷ ks else ks
 
 -- ---- names in scope: behind it a name may be another terminal than it was
 

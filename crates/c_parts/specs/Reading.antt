@@ -1,5 +1,5 @@
 -- Reading with one token ahead, as functions on lists.
-use Rattle.std.specs.Prelude.{◌≡◌, ℕ, zero, suc, Bool, true, false, cond, ◌&&◌, if◌then◌else◌, List, [], ◌∷◌, length, Option, Some, None}
+use Rattle.std.specs.Prelude.{ℕ, zero, suc, Bool, false, ◌&&◌, if◌then◌else◌, List, [], ◌∷◌, length, Option, Some, None}
 use Rattle.c_parts.specs.declared.lexeme.Lexeme.{Lexeme}
 use Rattle.c_parts.specs.Scopes.{State, next}
 
@@ -79,7 +79,7 @@ refuse why n ts = Refused (why n ts) ts
 
 -- too deep where the token may begin what has no room
 abbrev pub deep_if : Test → State → List Lexeme → Why
-deep_if starts n ts = cond (ahead starts n ts) Deep Syntax
+deep_if starts n ts = if ahead starts n ts then Deep else Syntax
 
 -- whether the next two tokens pass a test
 abbrev pub ahead_two : (State → Lexeme → Lexeme → Bool) → State → List Lexeme → Bool
@@ -92,4 +92,4 @@ either_two test r s n ts = if ahead_two test n ts then r n ts else s n ts
 
 -- one part, and where it may go on and a token says so, another after it
 abbrev pub carried : {A B : Type 0} → (A → Bool) → Test → Reader A → Reader B → (A × B → A) → Reader A
-carried lone ops r s f = r >>= λ a k after. cond (lone a && ahead ops k after) (and_then (s k after) (λ b. pure (f (a, b)))) (Took a after k)
+carried lone ops r s f = r >>= λ a k after. if lone a && ahead ops k after then and_then (s k after) (λ b. pure (f (a, b))) else Took a after k

@@ -1,5 +1,5 @@
 -- The typedef names in scope, and what else goes through every part of the grammar.
-use Rattle.std.specs.Prelude.{ℕ, suc, Bool, true, false, cond, ◌||◌, ◌&&◌, eqb, List, [], ◌∷◌, ◌++◌}
+use Rattle.std.specs.Prelude.{ℕ, suc, Bool, false, if◌then◌else◌, ◌||◌, ◌&&◌, eqb, List, [], ◌∷◌, ◌++◌}
 use Rattle.c_parts.specs.declared.terminal.Terminal.{Terminal}
 use Rattle.c_parts.specs.declared.lexeme.Lexeme.{Lexeme}
 use Rattle.c_parts.specs.declared.lexeme.Binding.{Binding}
@@ -19,7 +19,7 @@ declares_typedef x (b ∷ scope) = (eqb x b.name && b.is_typedef) || declares_ty
 -- A name is a typedef where the innermost scope that declares it declares it as one.
 abbrev pub is_typedef : ℕ → List Scope → Bool
 is_typedef x [] = false
-is_typedef x (scope ∷ outer) = cond (declares_name x scope) (declares_typedef x scope) (is_typedef x outer)
+is_typedef x (scope ∷ outer) = if declares_name x scope then declares_typedef x scope else is_typedef x outer
 
 -- more names in the innermost scope
 abbrev pub with_names : Scope → List Scope → List Scope

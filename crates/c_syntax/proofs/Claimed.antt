@@ -1,21 +1,21 @@
 -- What is claimed of expressions follows from how they are read.
-use Rattle.std.proofs.Common.{◌≡◌, ℕ, zero, suc, ◌+◌, ◌≤◌, Bool, true, false, List, [], ◌∷◌, ◌++◌, ◌⊎◌, inl, inr, length, refl, sym, ap, ◌∙◌, subst, arith, append-nil}
+use Rattle.std.proofs.Common.{◌≡◌, ℕ, suc, ◌+◌, ◌-◌, ◌≤◌, Bool, true, List, [], ◌∷◌, ◌++◌, length, refl, sym, ap, ◌∙◌, subst, arith, append-nil, length-append}
 use Rattle.c_parts.specs.declared.terminal.Terminal.TheVariants as t
 use Rattle.c_parts.specs.declared.lexeme.Lexeme.{Lexeme}
 use Rattle.c_parts.specs.Scopes.{State}
 use Rattle.c_parts.specs.Kinds.{Kinds, has}
 use Rattle.c_parts.specs.Part.{Part}
-use Rattle.c_parts.specs.Production.{sign, mark, ◌&◌}
+use Rattle.c_parts.specs.Production.{mark}
 use Rattle.c_parts.specs.Reading.{Reader, Why, Syntax, Deep, Answer, Took, Refused, left_of}
 use Rattle.c_parts.proofs.Laws.{Reads, Sound, Taken, Reached}
 use Rattle.c_parts.proofs.Agree.{Agrees}
 use Rattle.c_parts.proofs.Good.{Good, and-good, made-good, token-good}
-use Rattle.c_parts.proofs.Unbounded.{above, above-is, one-tree, spells-grows, syntax-exact, syntax-none, deep-exact, deep-not-at, deep-somewhere}
+use Rattle.c_parts.proofs.Unbounded.{above, above-is, one-tree, spells-grows, syntax-exact, syntax-none, taken-stops, deep-exact, deep-not-at, deep-somewhere}
 use Rattle.c_syntax.specs.declared.expr.Expr.{Expr}
 use Rattle.c_syntax.specs.Grammar.{Inner, expression, inner, nowhere}
-use Rattle.c_syntax.specs.Spelling.{expression_list, most_nesting, SpellsExpression, BeginsExpression, IsRefusedAt, IsRefused, ExpressionsHaveOneTree, ExpressionsBegin, PrefixesBegin, NestingGrows}
+use Rattle.c_syntax.specs.Spelling.{expression_list, most_nesting, SpellsExpression, IsRefusedAt, IsRefused, ExpressionsHaveOneTree, ExpressionsBegin, PrefixesBegin, NestingGrows}
 use Rattle.c_syntax.proofs.Expressions.{InnerGood, expression-good}
-use Rattle.c_syntax.proofs.Levels.{is_alive, same-level, two-levels}
+use Rattle.c_syntax.proofs.Levels.{same-level, two-levels}
 
 -- ---- an expression
 
@@ -94,15 +94,47 @@ refused-at Deep n us (t ∷ rest) e = (
   subst (λ d. (list_part d).Front n (us ++ (t ∷ []))) (above-is most_nesting 0) (deep-exact list_part list_reader list-reads list-agrees most_nesting n us rest t e),
 )
 
+place-of : (ts us rest : List Lexeme) → ts ≡ us ++ rest → length us ≡ length ts - length rest
+place-of ts us rest e = let k : length ts ≡ length us + length rest = ap length e ∙ length-append us rest in omega (arith, k)
+
 -- where it is refused
-pub refused_is_exact : (why : Why) (n : State) (ts rest : List Lexeme) → list_reader most_nesting n ts ≡ Refused why rest → IsRefused why n ts (length rest)
+pub refused_is_exact : (why : Why) (n : State) (ts rest : List Lexeme) → list_reader most_nesting n ts ≡ Refused why rest → IsRefused why n ts (length ts - length rest)
 refused_is_exact why n ts rest e =
     let w : Reached (list_part most_nesting) n ts rest = subst (λ a. Reached (list_part most_nesting) n ts (left_of a)) e ((list-reads most_nesting).reached n ts) in
     record {
       before = w.taken;
       rest = rest;
       whole = w.whole;
-      many = refl;
+      many = place-of ts w.taken rest w.whole;
       begins = w.front;
       at = refused-at why n w.taken rest (subst (λ l. list_reader most_nesting n l ≡ Refused why rest) w.whole e);
     }
+
+-- what stands behind the End is refused
+pub behind_is_refused : (n : State) (ts rest : List Lexeme) (t : Lexeme) (x : Expr) (m : State) → list_reader most_nesting n ts ≡ Took x (t ∷ rest) m → IsRefused Syntax n ts (length ts - length (t ∷ rest))
+behind_is_refused n ts rest t x m e =
+    let w : Taken (list_part most_nesting) n ts x (t ∷ rest) m = subst (λ a. Sound (list_part most_nesting) n ts a) e ((list-reads most_nesting).sound n ts) in
+    record {
+      before = w.taken;
+      rest = t ∷ rest;
+      whole = w.whole;
+      many = place-of ts w.taken (t ∷ rest) w.whole;
+      begins = (list-reads most_nesting).front n w.taken x m w.spells;
+      at = λ d. taken-stops list_part list_reader list-reads list-agrees most_nesting n w.taken rest t x m (subst (λ l. list_reader most_nesting n l ≡ Took x (t ∷ rest) m) w.whole e) d;
+    }
+
+not-read : (n : State) (ts : List Lexeme) (a : Answer Expr) → list_reader most_nesting n ts ≡ a → ((x : Expr) (m : State) → a ≡ Took x [] m → ⊥) → (x : Expr) → SpellsExpression most_nesting n ts x → ⊥
+not-read n ts a e other x h = other x h.after (sym e ∙ spelled_is_read n ts x h)
+
+pub refused_right : (why : Why) (n : State) (ts rest : List Lexeme) → list_reader most_nesting n ts ≡ Refused why rest
+    → IsRefused why n ts (length ts - length rest) × ((x : Expr) → SpellsExpression most_nesting n ts x → ⊥)
+refused_right why n ts rest e = (refused_is_exact why n ts rest e, not-read n ts (Refused why rest) e (λ x m f. cc))
+
+pub behind_right : (n : State) (ts rest : List Lexeme) (x : Expr) (m : State) → list_reader most_nesting n ts ≡ Took x rest m → (length rest ≡ 0 → ⊥)
+    → IsRefused Syntax n ts (length ts - length rest) × ((x : Expr) → SpellsExpression most_nesting n ts x → ⊥)
+behind_right n ts [] x m e h = absurd (h refl)
+behind_right n ts (t ∷ rest) x m e h = (behind_is_refused n ts rest t x m e, not-read n ts (Took x (t ∷ rest) m) e (λ y k f. let g : t ∷ rest ≡ [] = ap left_of f in cc))
+
+pub whole_right : (n : State) (ts rest : List Lexeme) (x : Expr) (m : State) → list_reader most_nesting n ts ≡ Took x rest m → length rest ≡ 0 → SpellsExpression most_nesting n ts x
+whole_right n ts [] x m e h = read_is_spelled n ts x m e
+whole_right n ts (t ∷ rest) x m e h = absurd (omega (arith, h))

@@ -1,17 +1,11 @@
 -- Each production of specifiers and declarators is read by its reader, at each two levels of nesting.
-use Rattle.std.proofs.Common.{◌≡◌, ℕ, zero, suc, Bool, true, false, List, [], ◌∷◌, ◌++◌, ◌⊎◌, inl, inr, refl, sym, ap, ◌∙◌, subst}
-use Rattle.std.specs.Prelude.{Option, Some, None}
+use Rattle.std.proofs.Common.{◌≡◌, Bool, true, List, [], ◌∷◌, refl}
 use Rattle.c_parts.specs.declared.terminal.Terminal.TheVariants as t
-use Rattle.c_parts.specs.declared.lexeme.Lexeme.{Lexeme}
-use Rattle.c_parts.specs.declared.span.Span.{Span}
-use Rattle.c_parts.specs.Scopes.{State, Scope}
-use Rattle.c_parts.specs.Kinds.{Kinds, has, disjoint, subset}
-use Rattle.c_parts.specs.Part.{Part, ◌&>◌, ◌⊔◌, shaped}
-use Rattle.c_parts.specs.Production.{Production, token, sign, mark, ◌&◌, ◌or◌, told_apart, made, spanned, many, nothing, optional, Nested, nested, opened}
+use Rattle.c_parts.specs.Kinds.{Kinds, disjoint}
+use Rattle.c_parts.specs.Production.{Production, mark, ◌&◌, made, many, Nested, opened}
 use Rattle.c_parts.proofs.Whole.{Whole, token-whole}
-use Rattle.c_parts.proofs.Openings.{Opening, Declines, Shares, opening-shaped, opening-and, declines-apart, declines-opening, declines-or, declines-shaped, declines-and, shares-opening, shares-left, shares-right, shares-shaped, shares-and}
-use Rattle.c_parts.proofs.Good.{Good, token-good, and-good, or-good, made-good, spanned-good, declares-good, collected-good, specifies-good, specified-good, many-good, nothing-good, optional-good, told-apart-good}
-use Rattle.c_syntax.specs.declared.expr.ExprKind.TheVariants as e
+use Rattle.c_parts.proofs.Openings.{Opening, Declines, Shares, opening-shaped, opening-and, declines-apart, declines-opening, declines-or, declines-shaped, declines-and, shares-opening, shares-right, shares-shaped, shares-and}
+use Rattle.c_parts.proofs.Good.{Good, token-good, and-good, or-good, made-good, spanned-good, declares-good, specifies-good, specified-good, many-good, nothing-good, optional-good, told-apart-good}
 use Rattle.c_syntax.specs.declared.expr.SpecifierKind.TheVariants as k
 use Rattle.c_syntax.specs.declared.expr.Member.TheVariants as m
 use Rattle.c_syntax.specs.declared.expr.Core.TheVariants as core

@@ -1,41 +1,29 @@
 -- Each production of expressions and declarators is read by its reader, at each two levels of nesting.
-use Rattle.std.proofs.Common.{◌≡◌, ℕ, zero, suc, Bool, true, false, List, [], ◌∷◌, ◌++◌, ◌⊎◌, inl, inr, refl, sym, ap, ◌∙◌, subst, append-nil}
+use Rattle.std.proofs.Common.{◌≡◌, Bool, true, false, List, [], ◌∷◌, ◌++◌, inl, inr, refl, sym, ap, ◌∙◌, subst, append-nil}
 use Rattle.std.specs.Prelude.{Option, Some, None}
 use Rattle.filc_num.specs.declared.integer.BinOp.{BinOp}
 use Rattle.c_parts.specs.declared.terminal.Terminal.TheVariants as t
 use Rattle.c_parts.specs.declared.lexeme.Lexeme.{Lexeme}
 use Rattle.c_parts.specs.declared.span.Span.{Span}
-use Rattle.c_parts.specs.Scopes.{State, Scope}
+use Rattle.c_parts.specs.Scopes.{State}
 use Rattle.c_parts.specs.Terminals.{code}
-use Rattle.c_parts.specs.Kinds.{kind, Kinds, has, disjoint, subset}
-use Rattle.c_parts.specs.Part.{Part, ◌&>◌, ◌⊔◌, shaped}
-use Rattle.c_parts.specs.Production.{Production, token, sign, mark, ◌&◌, ◌or◌, told_apart, made, spanned, span_of, many, nothing, optional, Nested, nested, opened, said, carries}
-use Rattle.c_parts.proofs.Laws.{Reads, Solid}
-use Rattle.c_parts.proofs.Carry.{Carries}
+use Rattle.c_parts.specs.Kinds.{kind, Kinds, disjoint, subset}
+use Rattle.c_parts.specs.Production.{Production, token, sign, mark, ◌&◌, made, spanned, span_of, many, optional, opened, said}
 use Rattle.c_parts.proofs.Sets.{disjoint-out, out-left, out-right}
 use Rattle.c_parts.proofs.Whole.{Whole, token-whole}
-use Rattle.c_parts.proofs.Openings.{Opening, Declines, Shares, opening-sign, opening-shaped, opening-and, opening-never, declines-apart, declines-opening, declines-or, declines-shaped, declines-and, shares-opening, shares-left, shares-right, shares-shaped, shares-and}
-use Rattle.c_parts.proofs.Good.{Good, token-good, and-good, or-good, made-good, spanned-good, declares-good, scoped-good, collected-good, specifies-good, specified-good, many-good, nothing-good, optional-good, carries-good, CarriesBy, told-apart-good}
-use Rattle.c_parts.proofs.Fields.{field-good, said-good}
+use Rattle.c_parts.proofs.Openings.{Opening, Declines, Shares, opening-shaped, opening-and, declines-apart, declines-opening, declines-or, declines-shaped, declines-and, shares-opening, shares-left, shares-right, shares-shaped, shares-and}
+use Rattle.c_parts.proofs.Good.{Good, token-good, and-good, or-good, made-good, spanned-good, many-good, optional-good, carries-good, CarriesBy, told-apart-good}
+use Rattle.c_parts.proofs.Fields.{said-good}
 use Rattle.c_syntax.specs.declared.expr.Expr.{Expr}
 use Rattle.c_syntax.specs.declared.expr.ExprKind.{ExprKind}
 use Rattle.c_syntax.specs.declared.expr.ExprKind.TheVariants as e
 use Rattle.c_syntax.specs.declared.expr.Link.{Link}
 use Rattle.c_syntax.specs.declared.expr.Postfix.{Postfix}
 use Rattle.c_syntax.specs.declared.expr.PostfixKind.TheVariants as postfix
-use Rattle.c_syntax.specs.declared.expr.TypeName.{TypeName}
-use Rattle.c_syntax.specs.declared.expr.SpecifierKind.TheVariants as k
-use Rattle.c_syntax.specs.declared.expr.Member.{Member}
-use Rattle.c_syntax.specs.declared.expr.Member.TheVariants as m
-use Rattle.c_syntax.specs.declared.expr.EnumConstant.{EnumConstant}
-use Rattle.c_syntax.specs.declared.expr.Declarator.{Declarator}
-use Rattle.c_syntax.specs.declared.expr.Core.TheVariants as core
-use Rattle.c_syntax.specs.declared.expr.SuffixKind.TheVariants as suffix
-use Rattle.c_syntax.specs.declared.expr.Parameter.{Parameter}
-use Rattle.c_syntax.specs.Words.{storage_of, function_of, qualifier_of, basic_of, record_of, prefix_of, operator_of, assigned_of}
+use Rattle.c_syntax.specs.Words.{prefix_of, operator_of, assigned_of}
 use Rattle.c_syntax.specs.Values.{after, middle, listed, all_listed, present, name_of, expr_of, chain, chain_of, link_of, postfix_of, postfix_operator_of, prefix_expr_of, cast_of, conditional_of, choice_of, assign_of, comma_of, specifier_of, specifiers_of, is_type, is_typedef_specifier, atomic_of, record_of_parts, enum_of_parts, tagged, untagged, member_of, asserted_of, assertion_of, constant_of, constant_scope, pointer_of, name_core, declarator_of, nothing_core, no_pointers, with_pointers, suffix_of, parameter_of, type_name_of, parameter_scope}
 use Rattle.c_syntax.specs.Values as value
-use Rattle.c_syntax.specs.Grammar.{any_name, declared_name, storage_words, function_words, qualifier_words, basic_words, record_words, steps, unary_operators, prefixes, expression_starts, specifier_starts, postfix_more, multiplying, adding, shifting, relating, equating, conditional_more, assigning, assignment_more, abstract_inside, parameter_inside, paren, Inner, level_shape, link, texts, primary, postfix_operator, postfix_expression, unary, cast, prefixed, level, binary, logical_or, conditional, is_unary_kind, is_unary, assignment, expression, arguments}
+use Rattle.c_syntax.specs.Grammar.{any_name, steps, unary_operators, prefixes, expression_starts, specifier_starts, postfix_more, multiplying, adding, shifting, relating, equating, conditional_more, assigning, assignment_more, abstract_inside, parameter_inside, paren, Inner, level_shape, link, texts, primary, postfix_operator, postfix_expression, unary, cast, prefixed, level, binary, logical_or, conditional, is_unary_kind, is_unary, assignment, expression, arguments}
 
 -- What is known of what stands inside, at two levels. Where nothing may be open it isn't alive.
 pub record InnerGood (strict : Bool) (alive alive' : Bool) (i i' : Inner) : Type 0 where

@@ -1,24 +1,21 @@
 -- The grammar at each level of nesting, and what two levels have to do with each other.
-use Rattle.std.proofs.Common.{◌≡◌, ℕ, zero, suc, Bool, true, false, List, [], ◌∷◌, ◌++◌, ◌⊎◌, inl, inr, refl, sym, ap, ◌∙◌, subst}
-use Rattle.std.specs.Prelude.{Option, Some, None}
+use Rattle.std.proofs.Common.{◌≡◌, ℕ, zero, suc, Bool, true, false, List, [], ◌∷◌, inl, inr, refl, ap, ◌∙◌}
 use Rattle.c_parts.specs.declared.terminal.Terminal.{Terminal}
 use Rattle.c_parts.specs.declared.terminal.Terminal.TheVariants as t
 use Rattle.c_parts.specs.declared.lexeme.Lexeme.{Lexeme}
 use Rattle.c_parts.specs.Scopes.{State}
 use Rattle.c_parts.specs.Kinds.{Kinds, subset, disjoint}
-use Rattle.c_parts.specs.Part.{Part}
-use Rattle.c_parts.specs.Production.{Production, token, sign, mark, ◌&◌, ◌or◌, told_apart, made, spanned, many, nothing, optional, collected, Nested, nested, opened, outside}
+use Rattle.c_parts.specs.Production.{Production, sign, mark, ◌&◌, told_apart, made, spanned, many, optional, collected, nested, opened}
 use Rattle.c_parts.proofs.Whole.{Whole}
 use Rattle.c_parts.proofs.Openings.{Opening, opening-sign, opening-shaped, opening-never}
 use Rattle.c_parts.proofs.Good.{Good, token-good, and-good, made-good, spanned-good, collected-good, many-good, optional-good}
-use Rattle.c_parts.proofs.Fields.{field-good, outside-good, Begins, room-good, begins-or, begins-left, begins-right, begins-shaped, begins-and, begins-token, begins-fewer}
+use Rattle.c_parts.proofs.Fields.{field-good, outside-good, Begins, room-good, begins-or, begins-shaped, begins-and, begins-token}
 use Rattle.c_parts.proofs.Unbounded.{above}
-use Rattle.c_syntax.specs.declared.expr.Expr.{Expr}
 use Rattle.c_syntax.specs.declared.expr.ExprKind.{ExprKind}
 use Rattle.c_syntax.specs.declared.expr.ExprKind.TheVariants as e
-use Rattle.c_syntax.specs.Words.{prefix_of, assigned_of}
-use Rattle.c_syntax.specs.Values.{after, middle, listed, all_listed, present, choice_of, asserted_of, expr_of, prefix_expr_of, name_of}
-use Rattle.c_syntax.specs.Grammar.{prefixes, expression_starts, specifier_starts, steps, unary_operators, postfix_more, conditional_more, assigning, assignment_more, abstract_inside, parameter_inside, paren, Inner, texts, primary, postfix_operator, postfix_expression, unary, cast, prefixed, logical_or, conditional, is_unary_kind, assignment, expression, arguments, constant, declarator, some_abstract, inner_parameter, parameters, typename, member, some_constants, in_parens, in_brackets, in_braces, deeper, nowhere, inner}
+use Rattle.c_syntax.specs.Words.{prefix_of}
+use Rattle.c_syntax.specs.Values.{after, middle, listed, all_listed, present, choice_of, asserted_of}
+use Rattle.c_syntax.specs.Grammar.{prefixes, expression_starts, specifier_starts, steps, unary_operators, postfix_more, conditional_more, assignment_more, abstract_inside, parameter_inside, paren, Inner, texts, postfix_operator, unary, cast, prefixed, conditional, is_unary_kind, assignment, expression, arguments, declarator, some_abstract, inner_parameter, parameters, typename, member, some_constants, in_parens, deeper, nowhere, inner}
 use Rattle.c_syntax.proofs.Expressions.{InnerGood, texts-good, prefixed-good, cast-good, conditional-good, assignment-good, expression-good, arguments-good}
 use Rattle.c_syntax.proofs.Declarators.{constant-good, declarator-good, some-abstract-good, inner-parameter-good, parameters-good, typename-good, member-good}
 

@@ -2,3 +2,4 @@ pub mod Expressions
 pub mod Declarators
 pub mod Levels
 pub mod Claimed
+pub mod Rows

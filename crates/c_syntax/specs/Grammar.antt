@@ -10,14 +10,12 @@
 -- behind a type of the same specifiers `TypedefBehindType`, which can only be declared). A parenthesis behind `_Atomic`
 -- is `AtomicParen`. A comma behind a comma is `SecondComma`, which stands nowhere: so `{ "," [ constant ] }` is what the
 -- annex writes as `{ "," constant } [ "," ]`.
-use Rattle.std.specs.Prelude.{ℕ, zero, suc, Bool, true, false, cond, ◌==◌, List, [], ◌∷◌, ◌++◌, Option, Some, None}
-use Rattle.filc_num.specs.declared.integer.BinOp.{BinOp}
+use Rattle.std.specs.Prelude.{ℕ, zero, suc, Bool, true, false, if◌then◌else◌, ◌==◌, List, [], ◌∷◌, ◌++◌, Option}
 use Rattle.c_parts.specs.declared.terminal.Terminal.TheVariants as t
-use Rattle.c_parts.specs.declared.lexeme.Lexeme.{Lexeme}
 use Rattle.c_parts.specs.declared.span.Span.{Span}
 use Rattle.c_parts.specs.Scopes.{Scope}
 use Rattle.c_parts.specs.Kinds.{Kinds}
-use Rattle.c_parts.specs.Production.{Production, token, sign, ◌&◌, ◌or◌, told_apart, made, spanned, many, nothing, optional, declares, scoped, collected, specifies, specified, Nested, nested, opened, outside, said, carries, Shape}
+use Rattle.c_parts.specs.Production.{Production, token, sign, ◌&◌, ◌or◌, told_apart, made, spanned, many, nothing, optional, declares, collected, specifies, specified, Nested, nested, opened, outside, said, carries, Shape}
 use Rattle.c_syntax.specs.declared.expr.Expr.{Expr}
 use Rattle.c_syntax.specs.declared.expr.ExprKind.{ExprKind, Cast', Chain', Conditional', Assign', Comma'}
 use Rattle.c_syntax.specs.declared.expr.ExprKind.TheVariants as e
@@ -43,7 +41,6 @@ use Rattle.c_syntax.specs.declared.expr.SuffixKind.{SuffixKind}
 use Rattle.c_syntax.specs.declared.expr.SuffixKind.TheVariants as suffix
 use Rattle.c_syntax.specs.declared.expr.Parameter.{Parameter}
 use Rattle.c_syntax.specs.declared.words.Qualifier.{Qualifier}
-use Rattle.c_syntax.specs.declared.words.Prefix.{Prefix}
 use Rattle.c_syntax.specs.Words.{storage_of, function_of, qualifier_of, basic_of, record_of, prefix_of, operator_of, assigned_of}
 use Rattle.c_syntax.specs.Values.{after, middle, listed, all_listed, present, name_of, expr_of, chain_of, link_of, postfix_of, postfix_operator_of, prefix_expr_of, cast_of, conditional_of, choice_of, assign_of, comma_of, specifier_of, specifiers_of, is_type, is_typedef_specifier, atomic_of, record_of_parts, enum_of_parts, tagged, untagged, member_of, asserted_of, assertion_of, constant_of, constant_scope, pointer_of, name_core, declarator_of, nothing_core, no_pointers, with_pointers, suffix_of, parameter_of, type_name_of, parameter_scope}
 
@@ -232,8 +229,16 @@ level operators operand = said (level_shape operators operand.shape)
 -- the operators that stand between operands of each level, from the tightest
 abbrev pub operators_over : ℕ → Kinds
 operators_over k =
-    cond (k == 0) multiplying (cond (k == 1) adding (cond (k == 2) shifting (cond (k == 3) relating (cond (k == 4) equating
-    (cond (k == 5) (t.Ampersand ∷ []) (cond (k == 6) (t.Caret ∷ []) (cond (k == 7) (t.Bar ∷ []) (cond (k == 8) (t.AndAnd ∷ []) (t.BarBar ∷ [])))))))))
+    if k == 0 then multiplying else
+    if k == 1 then adding else
+    if k == 2 then shifting else
+    if k == 3 then relating else
+    if k == 4 then equating else
+    if k == 5 then t.Ampersand ∷ [] else
+    if k == 6 then t.Caret ∷ [] else
+    if k == 7 then t.Bar ∷ [] else
+    if k == 8 then t.AndAnd ∷ [] else
+    t.BarBar ∷ []
 
 -- the levels || then && then | then ^ then & then == != then < > <= >= then << >> then + - then * / % over cast
 abbrev pub binary : ℕ → Inner → Production Expr

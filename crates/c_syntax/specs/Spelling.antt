@@ -33,12 +33,12 @@ IsRefusedAt Syntax n us (t ∷ rest) = (d : ℕ) → BeginsExpression d n (us ++
 IsRefusedAt Deep n us [] = ⊥
 IsRefusedAt Deep n us (t ∷ rest) = (BeginsExpression most_nesting n (us ++ t ∷ []) → ⊥) × BeginsExpression (2 + most_nesting) n (us ++ t ∷ [])
 
--- The list is refused where so many tokens are left: those before begin an expression, and with the next one they don't.
-pub record IsRefused (why : Why) (n : State) (ts : List Lexeme) (left : ℕ) : Type 0 where
+-- The list is refused at the token of this number: those before begin an expression, and with this one they don't.
+pub record IsRefused (why : Why) (n : State) (ts : List Lexeme) (place : ℕ) : Type 0 where
   pub before : List Lexeme
   pub rest : List Lexeme
   pub whole : ts ≡ before ++ rest
-  pub many : length rest ≡ left
+  pub many : length before ≡ place
   pub begins : BeginsExpression most_nesting n before
   pub at : IsRefusedAt why n before rest
 

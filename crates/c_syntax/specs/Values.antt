@@ -2,7 +2,6 @@
 use Rattle.std.specs.Prelude.{ℕ, Bool, true, false, List, [], ◌∷◌, Option, Some, None}
 use Rattle.filc_num.specs.declared.integer.BinOp.{BinOp}
 use Rattle.c_parts.specs.declared.lexeme.Lexeme.{Lexeme}
-use Rattle.c_parts.specs.declared.lexeme.Binding.{Binding}
 use Rattle.c_parts.specs.declared.span.Span.{Span}
 use Rattle.c_parts.specs.Scopes.{Scope}
 use Rattle.c_syntax.specs.declared.words.Storage.TheVariants as storage

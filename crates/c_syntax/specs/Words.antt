@@ -1,6 +1,6 @@
 -- Which word or operator a terminal is, as nodes of the tree have it. What isn't said is the last case, for terminals that
 -- never stand there.
-use Rattle.std.specs.Prelude.{Bool, true, false, Option, Some, None}
+use Rattle.std.specs.Prelude.{Option, Some, None}
 use Rattle.filc_num.specs.declared.integer.BinOp.{BinOp}
 use Rattle.filc_num.specs.declared.integer.BinOp.TheVariants as b
 use Rattle.c_parts.specs.declared.terminal.Terminal.{Terminal}

@@ -1,9 +1,6 @@
-use Rattle.std.proofs.Common.{◌≡◌, ℕ, length, refl, sym, ap, ◌∙◌, subst}
-use Rattle.std.specs.Prelude.{Some, slice_get}
+use Rattle.std.proofs.Common.{◌≡◌, length, refl, sym, ap, ◌∙◌}
 use Rattle.std.proofs.lemmas.Option.{slice_get_read}
-use Rattle.c_cursor.specs.Cursor.{input_of}
 use Rattle.c_cursor.specs.Input.{start_at}
-use Rattle.c_cursor.specs.declared.marks.Start.{Start}
 use Rattle.c_cursor.proofs.Ahead.{line_some, lines-past}
 use Rattle.c_cursor.proofs.cursor.Cursor.start.Goals as goal
 

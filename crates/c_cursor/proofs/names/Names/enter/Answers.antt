@@ -1,4 +1,4 @@
-use Rattle.std.proofs.Common.{◌≡◌, ℕ, ◌+◌, ◌≤◌, ◌<◌, suc, List, [], ◌∷◌, ◌++◌, length, sym, ap, ◌∙◌, subst, arith, length-append, Fits, w64}
+use Rattle.std.proofs.Common.{◌≡◌, ◌+◌, ◌≤◌, [], ◌∷◌, length, sym, ap, ◌∙◌, subst, arith, length-append}
 use Rattle.c_cursor.specs.declared.names.Entry.TheVariants.{Opens}
 use Rattle.c_cursor.specs.Names.{IsNames}
 use Rattle.c_cursor.proofs.Entries.{few, entered, scopes-entered}

@@ -1,4 +1,4 @@
-use Rattle.std.proofs.Common.{◌≡◌, ℕ, length}
+use Rattle.std.proofs.Common.{◌≡◌, length}
 use Rattle.c_parts.specs.Scopes.{outer_scopes, innermost}
 use Rattle.c_cursor.proofs.names.Names.leave.Given as goal
 

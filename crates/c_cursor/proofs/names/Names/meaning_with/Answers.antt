@@ -1,7 +1,7 @@
-use Rattle.std.proofs.Common.{◌≡◌, ℕ, ◌+◌, Bool, true, false, length, refl, sym, ap, ◌∙◌}
+use Rattle.std.proofs.Common.{◌≡◌, ℕ, Bool, true, false, length, refl, ap, ◌∙◌}
 use Rattle.std.specs.Prelude.{◌&&◌, eqb}
 use Rattle.std.proofs.lemmas.Bool.{eq-eqb}
-use Rattle.c_cursor.proofs.Meanings.{is_here, here_typedef, other_typedef}
+use Rattle.c_cursor.proofs.Meanings.{here_typedef, other_typedef}
 use Rattle.c_cursor.proofs.names.Names.meaning_with.Goals as goal
 use Rattle.c_cursor.proofs.names.Names.meaning_with.Goals.{else-was-via-then-was+then-was-depth+else-was-2, else-was-via-then-was+else-was-depth, else-was-via-else-was}
 

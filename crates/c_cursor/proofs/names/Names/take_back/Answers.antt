@@ -1,6 +1,6 @@
-use Rattle.std.proofs.Common.{◌≡◌, ℕ, ◌<◌, List, [], ◌∷◌, ◌++◌, length, sym, ap, ◌∙◌, subst, arith}
+use Rattle.std.proofs.Common.{◌≡◌, ◌<◌, [], ◌∷◌, ◌++◌, length, sym, ap, ◌∙◌, subst, arith}
 use Rattle.std.proofs.lemmas.Grind.{common_steps}
-use Rattle.c_parts.specs.Scopes.{outer_scopes, with_names}
+use Rattle.c_parts.specs.Scopes.{outer_scopes}
 use Rattle.c_cursor.specs.declared.names.Entry.TheVariants.{Opens, Binds}
 use Rattle.c_cursor.proofs.Entries.{unentered, undeclared, reached, some-older, last-scopes}
 use Rattle.c_cursor.proofs.names.Names.take_back.Goals as goal
