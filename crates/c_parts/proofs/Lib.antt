@@ -10,3 +10,4 @@ pub mod Whole
 pub mod Openings
 pub mod Good
 pub mod Fields
+pub mod Following

@@ -8,7 +8,7 @@ use Rattle.c_parts.specs.Kinds.{kind, Kinds, has_code, has, disjoint}
 use Rattle.c_parts.specs.Part.{Part, ◌&>◌, ◌⊔◌}
 use Rattle.c_parts.specs.Reading.{Reader, Test, take_one, pure, ahead, ahead_two}
 use Rattle.c_parts.specs.Production.{Shape, Production, lexeme, token, ◌&◌, ◌or◌, joined, made, spanned, many, nothing, optional, declares, scoped_with, scoped, collected, specifies, specified, carries}
-use Rattle.c_parts.proofs.Laws.{Reads, Solid, Joins, turn, choice, shaping, single, solid-one, left-nil, right-nil, nothing-reads}
+use Rattle.c_parts.proofs.Laws.{Reads, Solid, Joins, Parts, turn, choice, shaping, single, solid-one, left-nil, right-nil, nothing-reads}
 use Rattle.c_parts.proofs.Many.{repeating}
 use Rattle.c_parts.proofs.Carry.{Carries, carrying}
 use Rattle.c_parts.proofs.Sets.{disjoint-out, in-left, in-right, out-left, out-right, has-entered, has-typedefs, lacks-typedefs, has-names, lacks-names, both}
@@ -99,18 +99,22 @@ goes-right b gp gq sp k h = goes-last b gq sp k (out-right k gp (cond b gq (gq +
 solid-both : {A : Type 0} (p q : Part A) (a b : Bool) → (a ≡ true → Solid p) → (b ≡ true → Solid q) → a && b ≡ true → Solid (p ⊔ q)
 solid-both p q a b f g e n x m h = let c = both a b e in elim h [ inl w ↦ f c.0 n x m w | inr w ↦ g c.1 n x m w ]
 
+pub or-parts : {A : Type 0} {a b : Production A} → Whole a → Whole b → a.shape.solid ≡ true → disjoint b.shape.starts a.shape.starts ≡ true
+    → Parts a.part b.part (has a.shape.starts) (has a.shape.goes_on) (has b.shape.starts) (has b.shape.goes_on) (has (a or b).shape.starts) (has (a or b).shape.goes_on)
+or-parts {A} {a} {b} wa wb solid apart = record {
+  solid = wa.full solid;
+  apart = λ n t h. disjoint-out (code (kind n t)) b.shape.starts a.shape.starts apart h;
+  ends_left = λ m t h. out-left (code (kind m t)) a.shape.goes_on (cond b.shape.solid b.shape.goes_on (b.shape.goes_on ++ a.shape.starts)) h;
+  ends_right = λ m t h. goes-right b.shape.solid a.shape.goes_on b.shape.goes_on a.shape.starts (code (kind m t)) h;
+  ends_short = λ n x m t h e. goes-first b.part b.shape.solid b.shape.goes_on a.shape.starts (code (kind m t)) wb.full n x m h
+      (out-right (code (kind m t)) a.shape.goes_on (cond b.shape.solid b.shape.goes_on (b.shape.goes_on ++ a.shape.starts)) e);
+  opens_left = λ n t h. in-left (code (kind n t)) a.shape.starts b.shape.starts h;
+  opens_right = λ n t h. in-right (code (kind n t)) a.shape.starts b.shape.starts h;
+}
+
 pub or-whole : {A : Type 0} {a b : Production A} → Whole a → Whole b → a.shape.solid ≡ true → disjoint b.shape.starts a.shape.starts ≡ true → Whole (a or b)
 or-whole {A} {a} {b} wa wb solid apart = record {
-  reads = choice wa.reads wb.reads (record {
-    solid = wa.full solid;
-    apart = λ n t h. disjoint-out (code (kind n t)) b.shape.starts a.shape.starts apart h;
-    ends_left = λ m t h. out-left (code (kind m t)) a.shape.goes_on (cond b.shape.solid b.shape.goes_on (b.shape.goes_on ++ a.shape.starts)) h;
-    ends_right = λ m t h. goes-right b.shape.solid a.shape.goes_on b.shape.goes_on a.shape.starts (code (kind m t)) h;
-    ends_short = λ n x m t h e. goes-first b.part b.shape.solid b.shape.goes_on a.shape.starts (code (kind m t)) wb.full n x m h
-        (out-right (code (kind m t)) a.shape.goes_on (cond b.shape.solid b.shape.goes_on (b.shape.goes_on ++ a.shape.starts)) e);
-    opens_left = λ n t h. in-left (code (kind n t)) a.shape.starts b.shape.starts h;
-    opens_right = λ n t h. in-right (code (kind n t)) a.shape.starts b.shape.starts h;
-  });
+  reads = choice wa.reads wb.reads (or-parts wa wb solid apart);
   full = λ e. solid-both a.part b.part a.shape.solid b.shape.solid wa.full wb.full e;
 }
 

@@ -21,11 +21,11 @@ use Rattle.c_syntax.proofs.Declarators.{constant-good, declarator-good, some-abs
 
 -- ---- one level deeper
 
-abbrev between : {A : Type 0} → Terminal → Terminal → Production A → Production A
+abbrev pub between : {A : Type 0} → Terminal → Terminal → Production A → Production A
 between first last a = made middle (sign first & (a & sign last))
 
 -- between two signs: what has to hold of them computes
-between-good : {strict : Bool} {A : Type 0} {a b : Production A} (first last : Terminal) → Good strict a b → disjoint (last ∷ []) a.shape.goes_on ≡ true → disjoint (a & sign last).shape.starts [] ≡ true
+pub between-good : {strict : Bool} {A : Type 0} {a b : Production A} (first last : Terminal) → Good strict a b → disjoint (last ∷ []) a.shape.goes_on ≡ true → disjoint (a & sign last).shape.starts [] ≡ true
     → subset (first ∷ []) (first ∷ []) ≡ true → subset (between first last a).shape.goes_on [] ≡ true
     → Good strict (opened (first ∷ []) [] (nested (between first last a))) (opened (first ∷ []) [] (nested (between first last b)))
 between-good {strict} {A} {a} {b} first last g apart begins same more =
@@ -154,13 +154,13 @@ same-level (suc d) = deeper-good (inner d) (inner d) (same-level d)
 
 -- ---- none against two more
 
-begins-sign : {A : Type 0} (first : Terminal) (q : Production A) → Begins (sign first & q).part (first ∷ [])
+pub begins-sign : {A : Type 0} (first : Terminal) (q : Production A) → Begins (sign first & q).part (first ∷ [])
 begins-sign first q = begins-and q.part (begins-token (first ∷ []) mark)
 
 -- those that are open from their first token on
-record Opens (i : Inner) : Type 0 where
-  parens : Begins i.parens.part paren
-  prefixed : Begins i.prefixed.part prefixes
+pub record Opens (i : Inner) : Type 0 where
+  pub parens : Begins i.parens.part paren
+  pub prefixed : Begins i.prefixed.part prefixes
 
 prefixed-begins : (i : Inner) → Begins (prefixed i).part prefixes
 prefixed-begins i =
@@ -169,7 +169,7 @@ prefixed-begins i =
     (begins-or (begins-shaped (begins-sign t.Sizeof (told_apart paren specifier_starts (made e.SizeofType (opened paren [] i.type_parens)) (made e.SizeofExpr (unary i)))))
     (begins-shaped (begins-sign t.Alignof (opened paren [] i.type_parens)))))
 
-deeper-opens : (i : Inner) → Opens (deeper i)
+pub deeper-opens : (i : Inner) → Opens (deeper i)
 deeper-opens i = record { parens = begins-shaped (begins-sign t.LeftParen (expression i & sign t.RightParen)); prefixed = prefixed-begins i }
 
 module _ (i : Inner) (o : Opens i) where
@@ -185,7 +185,7 @@ module _ (i : Inner) (o : Opens i) where
   cast-begins : Begins (cast i).part expression_starts
   cast-begins = record { alone = λ n t h. inr (unary-begins.alone n t h) }
 
-  assignment-begins : Begins (assignment i).part expression_starts
+  pub assignment-begins : Begins (assignment i).part expression_starts
   assignment-begins = record { alone = λ n t h. inl (inl (inl (inl (inl (inl (inl (inl (inl (inl (inl (inl (cast-begins.alone n t h)))))))))))) }
 
 -- no room, against a level whose first tokens are all fronts

@@ -23,28 +23,28 @@ use Rattle.c_syntax.specs.declared.expr.TypeName.{TypeName}
 use Rattle.c_syntax.specs.declared.expr.Core.TheVariants as core
 use Rattle.c_syntax.specs.Values.{expr_of, link_of, postfix_operator_of, type_name_of, specifiers_of, specifier_of, declarator_of}
 use Rattle.c_syntax.specs.Grammar.{inner}
-use Rattle.c_syntax.specs.Spelling.{expression_list, most_nesting}
+use Rattle.c_syntax.specs.Spelling.{whole_expressions, most_nesting}
 
 -- a token
-abbrev sign : Terminal → Lexeme
+abbrev pub sign : Terminal → Lexeme
 sign terminal = record { terminal = terminal; name = 0; line = 1 }
 
-abbrev word : ℕ → Lexeme
+abbrev pub word : ℕ → Lexeme
 word x = record { terminal = t.Name; name = x; line = 1 }
 
 -- before the list, with these typedefs in scope
-abbrev start : Scope → State
+abbrev pub start : Scope → State
 start scope = record { scopes = scope ∷ []; typed = false; typedef = false; behind = t.End; place = 0; lines = 1 ∷ 1 ∷ 1 ∷ 1 ∷ 1 ∷ 1 ∷ 1 ∷ 1 ∷ 1 ∷ 1 ∷ 1 ∷ 1 ∷ [] }
 
 abbrev answer : Scope → List Lexeme → Answer Expr
-answer scope tokens = (expression_list (inner 4)).read (start scope) (tokens ++ sign t.End ∷ [])
+answer scope tokens = (whole_expressions 4).read (start scope) (tokens ++ sign t.End ∷ [])
 
 -- the tree of an answer, and what is refused where: so many tokens are left, without the End
 data Seen : Type 0 where
   Tree : Expr → Seen
   Stops : Why → ℕ → Seen
 
-abbrev left : List Lexeme → ℕ
+abbrev pub left : List Lexeme → ℕ
 left [] = 0
 left (x ∷ []) = 0
 left (x ∷ y ∷ rest) = suc (left (y ∷ rest))
@@ -56,10 +56,10 @@ seen_of (Refused why rest) = Stops why (left rest)
 abbrev seen : Scope → List Lexeme → Seen
 seen scope tokens = seen_of (answer scope tokens)
 
-abbrev from_to : ℕ → ℕ → Span
+abbrev pub from_to : ℕ → ℕ → Span
 from_to first last = record { line = 1; first = first; last = last }
 
-abbrev name : ℕ → ℕ → Expr
+abbrev pub name : ℕ → ℕ → Expr
 name at x = expr_of (from_to at at, e.Name x)
 
 abbrev chain : ℕ → ℕ → Expr → List Link → Expr
@@ -235,7 +235,7 @@ size_counts_two = refl
 
 -- two hundred where two hundred may be open, and one more
 abbrev seen_whole : List Lexeme → Seen
-seen_whole tokens = seen_of ((expression_list (inner most_nesting)).read (start []) (tokens ++ sign t.End ∷ []))
+seen_whole tokens = seen_of ((whole_expressions most_nesting).read (start []) (tokens ++ sign t.End ∷ []))
 
 two_hundred_open : is_tree (seen_whole (round 200 (word 1 ∷ []))) ≡ true
 unfolding inner kind

@@ -1,15 +1,15 @@
 -- The grammar of C from initialisers on: declarations, statements and files, in the order of C11's annex A.2.
-use Rattle.std.specs.Prelude.{ℕ, zero, suc, List, [], ◌∷◌, Option}
+use Rattle.std.specs.Prelude.{ℕ, zero, suc, true, List, [], ◌∷◌, Option, Some, None}
 use Rattle.c_parts.specs.declared.terminal.Terminal.TheVariants as t
 use Rattle.c_parts.specs.declared.span.Span.{Span}
 use Rattle.c_parts.specs.Scopes.{Scope}
 use Rattle.c_parts.specs.Kinds.{Kinds}
-use Rattle.c_parts.specs.Production.{Production, sign, ◌&◌, ◌or◌, made, spanned, many, optional, declares, scoped, scoped_with, specified, Nested, nested, opened, outside}
-use Rattle.c_parts.specs.Following.{◌>&◌}
+use Rattle.c_parts.specs.Production.{Shape, Production, sign, ◌&◌, ◌or◌, made, spanned, many, optional, declares, scoped, scoped_with, specified, Nested, nested, opened, outside}
+use Rattle.c_parts.specs.Following.{followed, ◌>&◌}
 use Rattle.c_syntax.specs.declared.expr.Expr.{Expr}
-use Rattle.c_syntax.specs.declared.expr.Declarator.{Declarator}
+use Rattle.c_syntax.specs.declared.expr.Declarator.{Declarator, out-Declarator}
 use Rattle.c_syntax.specs.declared.expr.Specifiers.{Specifiers}
-use Rattle.c_syntax.specs.declared.file.Initialiser.{Initialiser}
+use Rattle.c_syntax.specs.declared.file.Initialiser.{Initialiser, Expression, List'}
 use Rattle.c_syntax.specs.declared.file.Initialiser.TheVariants as initialiser
 use Rattle.c_syntax.specs.declared.file.InitDeclarator.{InitDeclarator}
 use Rattle.c_syntax.specs.declared.file.Declaration.{Declaration}
@@ -23,7 +23,13 @@ use Rattle.c_syntax.specs.declared.file.SwitchItem.{SwitchItem}
 use Rattle.c_syntax.specs.declared.file.SwitchItem.TheVariants as switch
 use Rattle.c_syntax.specs.declared.file.ForStart.{ForStart}
 use Rattle.c_syntax.specs.declared.file.ForStart.TheVariants as for
-use Rattle.c_syntax.specs.Values.{after, middle, listed, all_listed, present, declarator_scope}
+use Rattle.c_syntax.specs.declared.file.Tail.{Tail}
+use Rattle.c_syntax.specs.declared.file.Tail.TheVariants as tail
+use Rattle.c_syntax.specs.declared.file.External.{External}
+use Rattle.c_syntax.specs.declared.file.External.TheVariants as e
+use Rattle.c_syntax.specs.declared.file.File.{File}
+use Rattle.c_syntax.specs.Bodies.{body_scope}
+use Rattle.c_syntax.specs.Values.{after, around, middle, listed, all_listed, present, declarator_scope}
 use Rattle.c_syntax.specs.Grammar.{Inner, inner, expression_starts, paren, assignment, expression, conditional, commas, assertion, specifiers, declarator, in_parens, in_braces}
 
 -- ---- what stands one deeper
@@ -89,9 +95,12 @@ statement_of x = roll-Statement (record { span = x.0; kind = x.1 })
 abbrev pub block_of : Span × List BlockItem → Block
 block_of x = roll-Block (record { span = x.0; items = x.1 })
 
--- block = "{" { declaration | assertion | statement } "}"
+-- block = "{" { declaration | assertion | statement } "}", where so much is declared
+abbrev pub block_with : Bodies → Scope → Production Block
+block_with b scope = made block_of (spanned (opened brace [] (b.body scope)))
+
 abbrev pub block : Bodies → Production Block
-block b = made block_of (spanned (opened brace [] (b.body [])))
+block b = block_with b []
 
 -- "(" expression ")"
 abbrev pub condition : Inner → Production Expr
@@ -186,6 +195,61 @@ first_of x = x.0
 -- declaration | [ expression ] ";"
 abbrev pub for_start : Inner → Bodies → Production ForStart
 for_start i b = made for.Declaration (declaration i b) or made for.Expression (made first_of (optional_expression i & sign t.Semicolon))
+
+-- ---- A.2.4 files
+
+-- a function is a declarator with its body; in the body its parameters are in scope
+abbrev pub function_tail : Bodies → Declarator → Production Tail
+function_tail b d = made (tail.Function d) (block_with b (body_scope d))
+
+-- an initialiser's span
+abbrev pub initialiser_span : Initialiser → Span
+initialiser_span (Expression x) = x.span
+initialiser_span (List' span k list) = span
+
+-- a declarator with the initialiser behind it, or none
+abbrev pub init_with : Declarator → Option Initialiser → InitDeclarator
+init_with d None = record { span = (out-Declarator d).span; declarator = d; initialiser = None }
+init_with d (Some x) = record { span = around (out-Declarator d).span (initialiser_span x); declarator = d; initialiser = Some x }
+
+abbrev pub inits_of : Declarator → Option Initialiser × (List InitDeclarator × Unit {0}) → Tail
+inits_of d x = tail.Declaration (init_with d x.0 ∷ x.1.0)
+
+-- behind a declarator: [ "=" initialiser ] { "," init } ";"
+abbrev pub declaration_tail : Inner → Bodies → Declarator → Production Tail
+declaration_tail i b d = made (inits_of d) (optional_initialiser i b & (commas (init i b) & sign t.Semicolon))
+
+-- behind the first declarator: a body, or the rest of a declaration
+abbrev pub behind_declarator : Inner → Bodies → Declarator → Production Tail
+behind_declarator i b d = function_tail b d or declaration_tail i b d
+
+-- its shape, whatever the declarator is
+abbrev pub behind_shape : Shape
+behind_shape = record { starts = t.LeftBrace ∷ t.Equal ∷ t.Comma ∷ t.Semicolon ∷ []; goes_on = []; solid = true }
+
+abbrev pub second_of : {A B : Type 0} → A × B → B
+second_of x = x.1
+
+-- ";" | declarator ( block | [ "=" initialiser ] { "," init } ";" )
+abbrev pub tail_part : Inner → Bodies → Production Tail
+tail_part i b = made (λ x. tail.Declaration []) (sign t.Semicolon) or made second_of (followed (declared i) behind_shape (behind_declarator i b))
+
+abbrev pub external_of : Span × (Specifiers × Tail) → External
+external_of (span, (specifiers, tail.Function declarator body)) = e.Function (record { span = span; specifiers = specifiers; declarator = declarator; body = body })
+external_of (span, (specifiers, tail.Declaration declarators)) = e.Declaration (record { span = span; specifiers = specifiers; declarators = declarators })
+
+-- function = specifiers declarator block
+-- declaration = specifiers [ init { "," init } ] ";"
+-- Both begin alike, and part behind the first declarator.
+abbrev pub external : Inner → Bodies → Production External
+external i b = made external_of (spanned (specified (specifiers i & tail_part i b))) or made e.Assertion (assertion i)
+
+abbrev pub file_of : List External × Unit {0} → File
+file_of x = record { items = x.0 }
+
+-- file = { function | declaration | assertion } End
+abbrev pub file : Inner → Bodies → Production File
+file i b = made file_of (many (external i b) & sign t.End)
 
 -- ---- nesting
 

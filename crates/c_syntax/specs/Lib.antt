@@ -1,5 +1,6 @@
 pub mod Words
 pub mod Values
 pub mod Grammar
-pub mod Spelling
+pub mod Bodies
 pub mod Files
+pub mod Spelling

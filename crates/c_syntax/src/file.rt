@@ -21,6 +21,14 @@ pub enum External {
     Assertion(Assertion),
 }
 
+/// What stands behind the specifiers of a function or of a declaration that isn't in a block: a
+/// declarator and its body, or any number of declarators.
+#[derive(Drop)]
+pub enum Tail {
+    Function { declarator: Declarator, body: Block },
+    Declaration(Items<InitDeclarator>),
+}
+
 /// A function with its body (6.9.1).
 #[derive(Drop)]
 pub struct Function {

@@ -13,7 +13,7 @@ pub use expr::{
 };
 pub use file::{
     Block, BlockItem, Declaration, External, File, ForStart, Function, InitDeclarator, Initialiser,
-    Statement, StatementKind, SwitchItem,
+    Statement, StatementKind, SwitchItem, Tail,
 };
 pub use words::{
     BasicType, FunctionSpecifier, Operator, Prefix, Qualifier, RecordKind, Storage, assigned_of,

@@ -1,5 +1,6 @@
-use Rattle.c_syntax.proofs.Claimed.{expressions_have_one_tree}
+use Rattle.c_syntax.specs.Spelling.{expressions}
+use Rattle.c_syntax.proofs.Claimed.{have-one-tree, expressions-read}
 use Rattle.c_syntax.proofs.laws.expressions_have_one_tree.Goals as goal
 
 pub returns : goal.returns
-returns c = expressions_have_one_tree
+returns c = have-one-tree expressions expressions-read

@@ -1,0 +1,28 @@
+-- What the reader of a whole list returned is right, whichever way it ended.
+use Rattle.std.proofs.Common.{◌-◌, length, sym, ap, ◌∙◌, subst}
+use Rattle.c_parts.specs.Reading.{Syntax}
+use Rattle.c_cursor.specs.Input.{start_of}
+use Rattle.c_syntax.specs.Spelling.{whole_expressions, IsRightlyRefused}
+use Rattle.c_syntax.proofs.Claimed.{whole-expressions-read}
+use Rattle.c_expr_parser.proofs.Returned.{is_spelled, is_refused_behind, is_right}
+use Rattle.c_expr_parser.specs.Refusals.{IsRight, refusal_of}
+use Rattle.c_expr_parser.proofs.whole.expression.Goals as goal
+
+pub returns-then-left-eq0-clause-spelled : goal.returns-then-left-eq0-clause-spelled
+returns-then-left-eq0-clause-spelled c =
+    is_spelled whole_expressions whole-expressions-read c.new-cursor.result c.whole_expression-read.new.cursor c.args.tokens.now c.new-cursor.ensures.rest c.new-cursor.ensures.state
+    c.in-Ok.expr c.in-Ok.ensures (sym c.left-left.ensures ∙ c.if-left-eq0.true)
+
+pub returns-in-Ok-clause-refused : goal.returns-in-Ok-clause-refused
+returns-in-Ok-clause-refused c =
+    subst (λ k. IsRightlyRefused whole_expressions Syntax (start_of c.args.tokens.now) c.args.tokens.now k)
+    (sym (c.saturating_sub-place.ensures ∙ ap (λ k. length c.args.tokens.now - k) c.left-left.ensures))
+    (is_refused_behind whole_expressions whole-expressions-read c.new-cursor.result c.whole_expression-read.new.cursor c.args.tokens.now c.new-cursor.ensures.rest c.new-cursor.ensures.state
+    c.in-Ok.expr c.in-Ok.ensures (λ e. c.if-left-eq0.false (c.left-left.ensures ∙ e)))
+
+pub returns-clause-refused : goal.returns-clause-refused
+returns-clause-refused c =
+    subst (λ r. IsRight whole_expressions (start_of c.args.tokens.now) c.args.tokens.now r)
+    (sym (c.refusal_at.ensures ∙ ap (λ k. refusal_of c.in-Err.fault k) (c.saturating_sub-place.ensures ∙ ap (λ k. length c.args.tokens.now - k) c.left-left.ensures)))
+    (is_right whole_expressions whole-expressions-read c.new-cursor.result c.whole_expression-read.new.cursor c.args.tokens.now c.new-cursor.ensures.rest c.new-cursor.ensures.state
+    c.in-Err.fault c.in-Err.ensures)
