@@ -3,7 +3,7 @@ use Rattle.std.proofs.Common.{codes, ◌≡◌, ℕ, zero, suc, ◌&&◌, List, 
 use Rattle.std.specs.List.{take_while, prefix_len}
 use Rattle.std.proofs.lemmas.List.{length-take, take_min}
 use Rattle.c_lexer.specs.declared.token.Token.{Token}
-use Rattle.c_preproc.specs.Texts.{is_mark}
+use Rattle.c_preproc.specs.Texts.{is_punctuator}
 use Rattle.c_preproc.specs.Directives.{Plain, Directive, blocks_of, rest_of_line}
 
 -- the tokens inside a directive are passed over
@@ -27,12 +27,12 @@ pub take_while-stop : {X : Type 0} (p : X → Bool) (x : X) (xs : List X) → p 
 take_while-stop p x xs e = rw e refl
 
 -- a token that begins no directive
-pub plain_front : (bytes : List ℕ) (token : Token) (behind : List Token) → (token.first && is_mark bytes token (codes "#")) ≡ false → blocks_of bytes 0 (token ∷ behind) ≡ Plain token ∷ blocks_of bytes 0 behind
+pub plain_front : (bytes : List ℕ) (token : Token) (behind : List Token) → (token.first && is_punctuator bytes token (codes "#")) ≡ false → blocks_of bytes 0 (token ∷ behind) ≡ Plain token ∷ blocks_of bytes 0 behind
 unfolding blocks_of
 plain_front bytes token behind e = rw e refl
 
 -- one that begins a directive
-pub directive_front : (bytes : List ℕ) (token : Token) (behind : List Token) (count : ℕ) → (token.first && is_mark bytes token (codes "#")) ≡ true → count ≡ length (rest_of_line behind) → blocks_of bytes 0 (token ∷ behind) ≡ Directive token (take count behind) ∷ blocks_of bytes 0 (drop count behind)
+pub directive_front : (bytes : List ℕ) (token : Token) (behind : List Token) (count : ℕ) → (token.first && is_punctuator bytes token (codes "#")) ≡ true → count ≡ length (rest_of_line behind) → blocks_of bytes 0 (token ∷ behind) ≡ Directive token (take count behind) ∷ blocks_of bytes 0 (drop count behind)
 unfolding blocks_of
 directive_front bytes token behind count e is =
     let P : List Token → Type 0 = λ line. blocks_of bytes 0 (token ∷ behind) ≡ Directive token line ∷ blocks_of bytes 0 (drop count behind) in

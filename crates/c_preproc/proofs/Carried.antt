@@ -5,12 +5,17 @@ use Rattle.std.specs.List.{list_all, filter}
 use Rattle.c_lexer.specs.declared.token.Token.{Token}
 use Rattle.c_preproc.specs.declared.fault.PreFault.{PreFault}
 use Rattle.c_preproc.specs.declared.fault.PreFault.TheVariants as fault
-use Rattle.c_preproc.specs.Texts.{text_of, same_tokens, same_kind, is_name, is_mark}
+use Rattle.c_preproc.specs.Texts.{text_of, same_tokens, same_kind, is_name, is_punctuator}
 use Rattle.c_lexer.specs.declared.token.TokenKind.TheVariants.{End}
-use Rattle.c_preproc.specs.Directives.{Block, Plain, Directive, blocks_of, Command, Nothing, Include, Define, Undefine, If, IfDefined, IfUndefined, ElseIf, Else, EndIf, Pragma, Unknown, command_of}
+use Rattle.c_preproc.specs.declared.directives.DirectiveWord.{DirectiveWord}
+use Rattle.c_preproc.specs.declared.directives.DirectiveWord.TheVariants.{Nothing, Include, Define, Undefine, If, IfDefined, IfUndefined, ElseIf, Else, EndIf, Pragma, Unknown}
+use Rattle.c_preproc.specs.declared.state.Group.{Group}
+use Rattle.c_preproc.specs.declared.state.Group.TheVariants.{Outside, Waiting, Active, Past}
+use Rattle.c_preproc.proofs.Lists.{all_drop}
+use Rattle.c_preproc.specs.Directives.{Block, Plain, Directive, blocks_of, directive_word}
 use Rattle.c_preproc.specs.Macros.{Macro, macro_of}
 use Rattle.c_preproc.specs.Outcomes.{and_then}
-use Rattle.c_preproc.specs.Expansion.{Group, Outside, Waiting, Active, Past, State, after_block, after_blocks, after_directive, after_group, after_token, bare, carry_out, condition_of, define, defined_again, else_if, else_of, end_if, group_if, has_parameters, hash_line, is_active, no_hash, only_name, or_directive, pass_over, with_expansion, with_groups}
+use Rattle.c_preproc.specs.Expansion.{State, after_block, after_blocks, after_directive, after_group, after_token, bare, carry_out, condition_of, define, with_macro, else_if, else_of, end_if, group_if, has_parameters, hash_line, is_active, no_hash, only_name, open_by_name, or_directive, pass_over, with_expansion, with_groups}
 
 -- ---- one block in front
 
@@ -60,48 +65,19 @@ pub record Follows (p : Token → Bool) (s s' : State) : Type 0 where
   pub bodies : BodiesHold p s.definitions.macros → BodiesHold p s'.definitions.macros
 
 -- the test, but for a #
-abbrev pub or_mark : List ℕ → (Token → Bool) → Token → Bool
-or_mark bytes p t = p t || is_mark bytes t (codes "#")
-
--- the tokens that a command may define
-abbrev DefinesOnly : (Token → Bool) → Command → Type 0
-DefinesOnly p (Define tokens) = list_all p tokens ≡ true
-DefinesOnly p Nothing = Unit {0}
-DefinesOnly p (Include tokens) = Unit {0}
-DefinesOnly p (Undefine tokens) = Unit {0}
-DefinesOnly p (If tokens) = Unit {0}
-DefinesOnly p (IfDefined tokens) = Unit {0}
-DefinesOnly p (IfUndefined tokens) = Unit {0}
-DefinesOnly p (ElseIf tokens) = Unit {0}
-DefinesOnly p (Else tokens) = Unit {0}
-DefinesOnly p (EndIf tokens) = Unit {0}
-DefinesOnly p Pragma = Unit {0}
-DefinesOnly p Unknown = Unit {0}
-
-record DefinesThese (p : Token → Bool) (command : Command) : Type 0 where
-  these : DefinesOnly p command
-
-or_else : (p : Token → Bool) (b : Bool) (x y : Command) → DefinesOnly p x → DefinesThese p y → DefinesThese p (cond b x y)
-or_else p true x y hx hy = record { these = hx }
-or_else p false x y hx hy = hy
-
-defines_only : (p : Token → Bool) (bytes : List ℕ) (tokens : List Token) → list_all p tokens ≡ true → DefinesThese p (command_of bytes tokens)
-defines_only p bytes [] h = record { these = tt }
-defines_only p bytes (word ∷ tokens) h =
-    or_else p _ (Include tokens) _ tt (or_else p _ (Define tokens) _ (and_parts (p word) (list_all p tokens) h).1 (or_else p _ (Undefine tokens) _ tt
-    (or_else p _ (If tokens) _ tt (or_else p _ (IfDefined tokens) _ tt (or_else p _ (IfUndefined tokens) _ tt (or_else p _ (ElseIf tokens) _ tt
-    (or_else p _ (Else tokens) _ tt (or_else p _ (EndIf tokens) _ tt (or_else p _ Pragma Unknown tt (record { these = tt }))))))))))
+abbrev pub or_punctuator : List ℕ → (Token → Bool) → Token → Bool
+or_punctuator bytes p t = p t || is_punctuator bytes t (codes "#")
 
 -- tokens without a #
-no_marks : (bytes : List ℕ) (p : Token → Bool) (tokens : List Token) → hash_line bytes tokens ≡ None → list_all (or_mark bytes p) tokens ≡ true → list_all p tokens ≡ true
-no_marks bytes p [] none all = refl
-no_marks bytes p (t ∷ tokens) none all = by (is_mark bytes t (codes "#")) (no_marks bytes p tokens) none (and_parts (or_mark bytes p t) (list_all (or_mark bytes p) tokens) all)
+no_hashes : (bytes : List ℕ) (p : Token → Bool) (tokens : List Token) → hash_line bytes tokens ≡ None → list_all (or_punctuator bytes p) tokens ≡ true → list_all p tokens ≡ true
+no_hashes bytes p [] none all = refl
+no_hashes bytes p (t ∷ tokens) none all = by (is_punctuator bytes t (codes "#")) (no_hashes bytes p tokens) none (and_parts (or_punctuator bytes p t) (list_all (or_punctuator bytes p) tokens) all)
   where
     or_false : (b : Bool) → (b || false) ≡ true → b ≡ true
     or_false true h = refl
     or_false false h = h
 
-    by : (b : Bool) → (hash_line bytes tokens ≡ None → list_all (or_mark bytes p) tokens ≡ true → list_all p tokens ≡ true) → cond b (Some t.line) (hash_line bytes tokens) ≡ None → ((p t || b) ≡ true) × (list_all (or_mark bytes p) tokens ≡ true) → (p t && list_all p tokens) ≡ true
+    by : (b : Bool) → (hash_line bytes tokens ≡ None → list_all (or_punctuator bytes p) tokens ≡ true → list_all p tokens ≡ true) → cond b (Some t.line) (hash_line bytes tokens) ≡ None → ((p t || b) ≡ true) × (list_all (or_punctuator bytes p) tokens ≡ true) → (p t && list_all p tokens) ≡ true
     by true deep e both = cc
     by false deep e both = rw (or_false (p t) both.0, deep e both.1) refl
 
@@ -122,23 +98,23 @@ module _ (p : Token → Bool) (s : State) where
   same_macros : (groups : List Group) → Follows p s (with_groups s groups)
   same_macros groups = record { bytes = refl; out = refl; bodies = λ h. h }
 
-  define_follows : (line : ℕ) (tokens : List Token) → list_all (or_mark s.definitions.bytes p) tokens ≡ true → Keeps (Follows p s) (define line s tokens)
+  define_follows : (line : ℕ) (tokens : List Token) → list_all (or_punctuator s.definitions.bytes p) tokens ≡ true → Keeps (Follows p s) (define line s tokens)
   define_follows line [] all = tt
   define_follows line (name ∷ body) all =
       let bytes = s.definitions.bytes in
       let macro : Macro = record { name = text_of bytes name; body = body } in
       keeps_cond (Follows p s) (not (is_name name) || has_parameters bytes name body) (Err (fault.Directive line)) _ (λ _. tt)
-      (λ _. by_hash (hash_line bytes body) refl (macro_of s.definitions.macros macro.name) (and_parts (or_mark bytes p name) (list_all (or_mark bytes p) body) all).1)
+      (λ _. by_hash (hash_line bytes body) refl (macro_of s.definitions.macros macro.name) (and_parts (or_punctuator bytes p name) (list_all (or_punctuator bytes p) body) all).1)
     where
-      again : (o : Option Macro) → list_all p body ≡ true → Keeps (Follows p s) (defined_again line s (record { name = text_of s.definitions.bytes name; body = body }) o)
+      again : (o : Option Macro) → list_all p body ≡ true → Keeps (Follows p s) (with_macro line s (record { name = text_of s.definitions.bytes name; body = body }) o)
       again None one = record { bytes = refl; out = refl; bodies = λ h. rw (one, h) refl }
       again (Some old) one = keeps_cond (Follows p s) (same_tokens s.definitions.bytes old.body body) (Ok s) (Err (fault.Directive line)) (λ _. same_state) (λ _. tt)
 
-      by_hash : (h : Option ℕ) → hash_line s.definitions.bytes body ≡ h → (o : Option Macro) → list_all (or_mark s.definitions.bytes p) body ≡ true → Keeps (Follows p s) (and_then (defined_again line s (record { name = text_of s.definitions.bytes name; body = body }) o) (no_hash h))
+      by_hash : (h : Option ℕ) → hash_line s.definitions.bytes body ≡ h → (o : Option Macro) → list_all (or_punctuator s.definitions.bytes p) body ≡ true → Keeps (Follows p s) (and_then (with_macro line s (record { name = text_of s.definitions.bytes name; body = body }) o) (no_hash h))
       by_hash None e o body_holds =
-          let holds = again o (no_marks s.definitions.bytes p body e body_holds) in
-          keeps_then (Follows p s) (defined_again line s (record { name = text_of s.definitions.bytes name; body = body }) o) (no_hash None) (λ after is. kept (Follows p s) _ after holds is)
-      by_hash (Some at) e o body_holds = keeps_then (Follows p s) (defined_again line s (record { name = text_of s.definitions.bytes name; body = body }) o) (no_hash (Some at)) (λ after is. tt)
+          let holds = again o (no_hashes s.definitions.bytes p body e body_holds) in
+          keeps_then (Follows p s) (with_macro line s (record { name = text_of s.definitions.bytes name; body = body }) o) (no_hash None) (λ after is. kept (Follows p s) _ after holds is)
+      by_hash (Some at) e o body_holds = keeps_then (Follows p s) (with_macro line s (record { name = text_of s.definitions.bytes name; body = body }) o) (no_hash (Some at)) (λ after is. tt)
 
   else_if_follows : (line : ℕ) (tokens : List Token) (groups : List Group) → Keeps (Follows p s) (else_if line s tokens groups)
   else_if_follows line tokens [] = same_state
@@ -155,40 +131,38 @@ module _ (p : Token → Bool) (s : State) where
   end_if_follows line tokens [] = same_state
   end_if_follows line tokens (group ∷ groups) = keeps_then (Follows p s) (bare line group tokens) _ (λ g is. same_macros groups)
 
-  carry_out_follows : (line : ℕ) (command : Command) → DefinesOnly (or_mark s.definitions.bytes p) command → Keeps (Follows p s) (carry_out line s command)
-  carry_out_follows line Nothing h = same_state
-  carry_out_follows line (Include tokens) h = tt
-  carry_out_follows line (Define tokens) h = define_follows line tokens h
-  carry_out_follows line (Undefine tokens) h =
+  open_by_name_follows : (wanted : Bool) (line : ℕ) (tokens : List Token) → Keeps (Follows p s) (open_by_name wanted line s tokens)
+  open_by_name_follows wanted line tokens = keeps_then (Follows p s) (or_directive line (only_name tokens)) _ (λ name is. same_macros _)
+
+  carry_out_follows : (line : ℕ) (word : DirectiveWord) (tokens : List Token) → list_all (or_punctuator s.definitions.bytes p) tokens ≡ true → Keeps (Follows p s) (carry_out line s word tokens)
+  carry_out_follows line Nothing tokens h = same_state
+  carry_out_follows line Include tokens h = tt
+  carry_out_follows line Define tokens h = define_follows line tokens h
+  carry_out_follows line Undefine tokens h =
       keeps_then (Follows p s) (or_directive line (only_name tokens)) _ (λ name is. record { bytes = refl; out = refl; bodies = filter_holds p _ s.definitions.macros })
-  carry_out_follows line (If tokens) h = keeps_then (Follows p s) (condition_of s.definitions line tokens) _ (λ holds is. same_macros (group_if holds ∷ s.groups))
-  carry_out_follows line (IfDefined tokens) h = keeps_then (Follows p s) (or_directive line (only_name tokens)) _ (λ name is. same_macros _)
-  carry_out_follows line (IfUndefined tokens) h = keeps_then (Follows p s) (or_directive line (only_name tokens)) _ (λ name is. same_macros _)
-  carry_out_follows line (ElseIf tokens) h = else_if_follows line tokens s.groups
-  carry_out_follows line (Else tokens) h = else_of_follows line tokens s.groups
-  carry_out_follows line (EndIf tokens) h = end_if_follows line tokens s.groups
-  carry_out_follows line Pragma h = same_state
-  carry_out_follows line Unknown h = tt
+  carry_out_follows line If tokens h = keeps_then (Follows p s) (condition_of s.definitions line tokens) _ (λ holds is. same_macros (group_if holds ∷ s.groups))
+  carry_out_follows line IfDefined tokens h = open_by_name_follows true line tokens
+  carry_out_follows line IfUndefined tokens h = open_by_name_follows false line tokens
+  carry_out_follows line ElseIf tokens h = else_if_follows line tokens s.groups
+  carry_out_follows line Else tokens h = else_of_follows line tokens s.groups
+  carry_out_follows line EndIf tokens h = end_if_follows line tokens s.groups
+  carry_out_follows line Pragma tokens h = same_state
+  carry_out_follows line Unknown tokens h = tt
 
-  pass_over_follows : (line : ℕ) (command : Command) → Keeps (Follows p s) (pass_over line s command)
-  pass_over_follows line (If tokens) = same_macros _
-  pass_over_follows line (IfDefined tokens) = same_macros _
-  pass_over_follows line (IfUndefined tokens) = same_macros _
-  pass_over_follows line (ElseIf tokens) = else_if_follows line tokens s.groups
-  pass_over_follows line (Else tokens) = else_of_follows line tokens s.groups
-  pass_over_follows line (EndIf tokens) = end_if_follows line tokens s.groups
-  pass_over_follows line Nothing = same_state
-  pass_over_follows line (Include tokens) = same_state
-  pass_over_follows line (Define tokens) = same_state
-  pass_over_follows line (Undefine tokens) = same_state
-  pass_over_follows line Pragma = same_state
-  pass_over_follows line Unknown = same_state
+  pass_over_follows : (line : ℕ) (word : DirectiveWord) (tokens : List Token) → Keeps (Follows p s) (pass_over line s word tokens)
+  pass_over_follows line If tokens = same_macros _
+  pass_over_follows line IfDefined tokens = same_macros _
+  pass_over_follows line IfUndefined tokens = same_macros _
+  pass_over_follows line ElseIf tokens = else_if_follows line tokens s.groups
+  pass_over_follows line Else tokens = else_of_follows line tokens s.groups
+  pass_over_follows line EndIf tokens = end_if_follows line tokens s.groups
+  pass_over_follows line _ tokens = same_state
 
-  pub directive_follows : (line : ℕ) (tokens : List Token) → list_all (or_mark s.definitions.bytes p) tokens ≡ true → Keeps (Follows p s) (after_directive line s (command_of s.definitions.bytes tokens))
+  pub directive_follows : (line : ℕ) (tokens : List Token) → list_all (or_punctuator s.definitions.bytes p) tokens ≡ true → Keeps (Follows p s) (after_directive line s tokens)
   directive_follows line tokens all =
-      let command = command_of s.definitions.bytes tokens in
-      keeps_cond (Follows p s) (is_active s.groups) (carry_out line s command) (pass_over line s command)
-      (λ _. carry_out_follows line command (defines_only (or_mark s.definitions.bytes p) s.definitions.bytes tokens all).these) (λ _. pass_over_follows line command)
+      let word = directive_word s.definitions.bytes tokens in
+      keeps_cond (Follows p s) (is_active s.groups) (carry_out line s word (drop 1 tokens)) (pass_over line s word (drop 1 tokens))
+      (λ _. carry_out_follows line word (drop 1 tokens) (all_drop (or_punctuator s.definitions.bytes p) 1 tokens all)) (λ _. pass_over_follows line word (drop 1 tokens))
 
 -- ---- the bytes
 
@@ -196,7 +170,7 @@ pub any_token : (tokens : List Token) → list_all (λ t. true) tokens ≡ true
 any_token [] = refl
 any_token (t ∷ tokens) = any_token tokens
 
-pub directive_bytes : (line : ℕ) (s s' : State) (tokens : List Token) → after_directive line s (command_of s.definitions.bytes tokens) ≡ Ok s' → s'.definitions.bytes ≡ s.definitions.bytes
+pub directive_bytes : (line : ℕ) (s s' : State) (tokens : List Token) → after_directive line s tokens ≡ Ok s' → s'.definitions.bytes ≡ s.definitions.bytes
 directive_bytes line s s' tokens e = (kept (Follows (λ t. true) s) _ s' (directive_follows (λ t. true) s line tokens (any_token tokens)) e).bytes
 
 pub token_bytes : (s s' : State) (t : Token) → after_token s t ≡ Ok s' → s'.definitions.bytes ≡ s.definitions.bytes
@@ -204,7 +178,7 @@ token_bytes s s' t e =
     let P : State → Type 0 = λ after. after.definitions.bytes ≡ s.definitions.bytes in
     kept P _ s'
     (keeps_cond P (not (is_active s.groups) && not (same_kind t.kind End)) (Ok s) _ (λ _. refl)
-    (λ _. keeps_cond P (is_mark s.definitions.bytes t (codes "#")) (Err (fault.Directive t.line)) _ (λ _. tt)
+    (λ _. keeps_cond P (is_punctuator s.definitions.bytes t (codes "#")) (Err (fault.Directive t.line)) _ (λ _. tt)
     (λ _. keeps_then P (with_expansion s.definitions t s.out) _ (λ out is. refl)))) e
 
 -- ---- a loop's step, with the bytes as the code has them
@@ -225,8 +199,8 @@ module _ (bytes seen_bytes : List ℕ) (s s' : State) (rest ahead : List Token) 
     front_is : blocks_of bytes 0 (t ∷ ahead) ≡ Directive t line ∷ blocks_of bytes 0 left
     front_is = at_bytes _ _ front (ap (λ bs. Directive t (take count ahead) ∷ blocks_of bs 0 (drop count ahead)) (seen_is ∙ same) ∙ ap (λ ts. Directive t ts ∷ blocks_of bytes 0 (drop count ahead)) (sym lines) ∙ ap (λ ts. Directive t line ∷ blocks_of bytes 0 ts) (sym lefts))
 
-    pub directive_step : after_directive t.line s (command_of s.definitions.bytes line) ≡ Ok s' → after_blocks s' (blocks_of bytes 0 left) ≡ whole
+    pub directive_step : after_directive t.line s line ≡ Ok s' → after_blocks s' (blocks_of bytes 0 left) ≡ whole
     directive_step goes = on_block bytes s s' (Directive t line) rest ahead left t whole is front_is goes told
 
-    pub directive_fault : (why : PreFault) → after_directive t.line s (command_of s.definitions.bytes line) ≡ Err why → whole ≡ Err why
+    pub directive_fault : (why : PreFault) → after_directive t.line s line ≡ Err why → whole ≡ Err why
     directive_fault why fails = on_block_fault bytes s (Directive t line) rest ahead left t why whole is front_is fails told

@@ -8,7 +8,7 @@ use Rattle.c_lexer.specs.declared.token.TokenKind.TheVariants.{Name}
 use Rattle.c_preproc.specs.Texts.{is_word}
 use Rattle.c_preproc.specs.Macros.{Definitions}
 use Rattle.c_preproc.specs.Outcomes.{and_then}
-use Rattle.c_preproc.specs.Expansion.{asked, decided_of, is_defined, truth_token, with_expansion, with_expansions}
+use Rattle.c_preproc.specs.Expansion.{operand_of_defined, decided_of, is_defined, truth_token, with_expansion, with_expansions}
 
 abbrev pub blank : Token
 blank = record { kind = Name; line = 0; start = 0; end = 0; first = false; library = false }
@@ -39,7 +39,7 @@ on_word d tokens after whole rest ahead t is e after_is told =
     front e = rw e refl
 
 -- `defined` with its name
-pub on_defined : (d : Definitions) (tokens after : List Token) (whole : Option (List Token)) (rest ahead left : List Token) (t name number : Token) (count : ℕ) → rest ≡ t ∷ ahead → is_word d.bytes t (codes "defined") ≡ true → asked d.bytes ahead ≡ Some (name, count)
+pub on_defined : (d : Definitions) (tokens after : List Token) (whole : Option (List Token)) (rest ahead left : List Token) (t name number : Token) (count : ℕ) → rest ≡ t ∷ ahead → is_word d.bytes t (codes "defined") ≡ true → operand_of_defined d.bytes ahead ≡ Some (name, count)
     → number ≡ truth_token d.bytes (is_defined d name) t → after ≡ tokens ++ number ∷ [] → left ≡ drop count ahead
     → behind tokens (decided_of d 0 rest) ≡ whole → behind after (decided_of d 0 left) ≡ whole
 unfolding decided_of
@@ -49,15 +49,15 @@ on_defined d tokens after whole rest ahead left t name number count is e asks nu
     ∙ ap (behind tokens) (ap (λ n. option_map (λ more. n ∷ more) (decided_of d 0 (drop count ahead))) number_is ∙ ap (option_map (λ more. truth_token d.bytes (is_defined d name) t ∷ more)) (sym (decided_of-inside d count ahead)) ∙ front e asks)
     ∙ ap (λ ts. behind tokens (decided_of d 0 ts)) (sym is) ∙ told
   where
-    front : is_word d.bytes t (codes "defined") ≡ true → asked d.bytes ahead ≡ Some (name, count) → option_map (λ more. truth_token d.bytes (is_defined d name) t ∷ more) (decided_of d count ahead) ≡ decided_of d 0 (t ∷ ahead)
+    front : is_word d.bytes t (codes "defined") ≡ true → operand_of_defined d.bytes ahead ≡ Some (name, count) → option_map (λ more. truth_token d.bytes (is_defined d name) t ∷ more) (decided_of d count ahead) ≡ decided_of d 0 (t ∷ ahead)
     front e asks = rw (e, asks) refl
 
 -- `defined` without one
-pub on_nameless : (d : Definitions) (tokens : List Token) (whole : Option (List Token)) (rest ahead : List Token) (t : Token) → rest ≡ t ∷ ahead → is_word d.bytes t (codes "defined") ≡ true → asked d.bytes ahead ≡ None → behind tokens (decided_of d 0 rest) ≡ whole → whole ≡ None
+pub on_nameless : (d : Definitions) (tokens : List Token) (whole : Option (List Token)) (rest ahead : List Token) (t : Token) → rest ≡ t ∷ ahead → is_word d.bytes t (codes "defined") ≡ true → operand_of_defined d.bytes ahead ≡ None → behind tokens (decided_of d 0 rest) ≡ whole → whole ≡ None
 unfolding decided_of
 on_nameless d tokens whole rest ahead t is e asks told = sym told ∙ ap (λ ts. behind tokens (decided_of d 0 ts)) is ∙ ap (behind tokens) (front e asks)
   where
-    front : is_word d.bytes t (codes "defined") ≡ true → asked d.bytes ahead ≡ None → decided_of d 0 (t ∷ ahead) ≡ None
+    front : is_word d.bytes t (codes "defined") ≡ true → operand_of_defined d.bytes ahead ≡ None → decided_of d 0 (t ∷ ahead) ≡ None
     front e asks = rw (e, asks) refl
 
 -- the end
@@ -92,5 +92,5 @@ on_last_expansion d tokens i out whole h told = sym told ∙ ap (λ ts. with_exp
 pub word_in : (bytes texts : List ℕ) (t : Token) (b : Bool) → bytes ≡ texts → is_word bytes t (codes "defined") ≡ b → is_word texts t (codes "defined") ≡ b
 word_in bytes texts t b same h = ap (λ bs. is_word bs t (codes "defined")) (sym same) ∙ h
 
-pub asked_in : (bytes texts : List ℕ) (tokens : List Token) (o : Option (Token × ℕ)) → bytes ≡ texts → asked bytes tokens ≡ o → asked texts tokens ≡ o
-asked_in bytes texts tokens o same h = ap (λ bs. asked bs tokens) (sym same) ∙ h
+pub operand_in : (bytes texts : List ℕ) (tokens : List Token) (o : Option (Token × ℕ)) → bytes ≡ texts → operand_of_defined bytes tokens ≡ o → operand_of_defined texts tokens ≡ o
+operand_in bytes texts tokens o same h = ap (λ bs. operand_of_defined bs tokens) (sym same) ∙ h

@@ -9,13 +9,13 @@ use Rattle.c_lexer.specs.declared.token.TokenKind.{TokenKind}
 use Rattle.c_lexer.specs.declared.token.TokenKind.TheVariants.{Name, Number, Character, Text, Punct, End}
 use Rattle.c_preproc.specs.declared.fault.PreFault.{PreFault}
 use Rattle.c_preproc.specs.declared.fault.PreFault.TheVariants as fault
-use Rattle.c_preproc.specs.Texts.{text_of, same_text, same_kind, is_name, is_mark}
-use Rattle.c_preproc.specs.Directives.{blocks_of, rest_of_line, command_of}
+use Rattle.c_preproc.specs.Texts.{text_of, same_text, same_kind, is_name, is_punctuator}
+use Rattle.c_preproc.specs.Directives.{blocks_of, rest_of_line}
 use Rattle.c_preproc.specs.Macros.{Definitions, Macro, body_for, expansion_of_token, macro_of, placed_at, replacement, replacement_of, without}
 use Rattle.c_preproc.specs.Expansion.{State, after_blocks, after_directive, after_token, filc_macro, first_state, is_active, token_limit, with_digits, with_expansion}
 use Rattle.c_preproc.proofs.Lists.{and_false, all_append, all_take}
 use Rattle.c_preproc.proofs.Blocks.{take_while-front, take_while-pass, take_while-stop}
-use Rattle.c_preproc.proofs.Carried.{BodiesHold, Follows, Keeps, any_token, directive_bytes, directive_follows, kept, keeps_cond, keeps_then, or_mark, token_bytes}
+use Rattle.c_preproc.proofs.Carried.{BodiesHold, Follows, Keeps, any_token, directive_bytes, directive_follows, kept, keeps_cond, keeps_then, or_punctuator, token_bytes}
 
 -- ---- what an expansion is made of
 
@@ -83,17 +83,17 @@ pub record Expands (s s' : State) (t : Token) : Type 0 where
   pub definitions : s'.definitions ≡ s.definitions
   pub out : s'.out ≡ s.out ++ expansion_of_token s.definitions.bytes s.definitions.macros t
   pub fits : length s'.out ≤ token_limit
-  pub plain : is_mark s.definitions.bytes t (codes "#") ≡ false
+  pub plain : is_punctuator s.definitions.bytes t (codes "#") ≡ false
 
 pub token_gives : (s s' : State) (t : Token) → after_token s t ≡ Ok s' → (s' ≡ s) ⊎ Expands s s' t
 token_gives s s' t e =
     let P : State → Type 0 = λ after. (after ≡ s) ⊎ Expands s after t in
     kept P _ s'
     (keeps_cond P (not (is_active s.groups) && not (same_kind t.kind End)) (Ok s) _ (λ _. inl refl)
-    (λ _. keeps_cond P (is_mark s.definitions.bytes t (codes "#")) (Err (fault.Directive t.line)) _ (λ _. tt)
+    (λ _. keeps_cond P (is_punctuator s.definitions.bytes t (codes "#")) (Err (fault.Directive t.line)) _ (λ _. tt)
     (λ plain. keeps_then P (with_expansion s.definitions t s.out) _ (λ out is. inr (fitted plain out is))))) e
   where
-    fitted : is_mark s.definitions.bytes t (codes "#") ≡ false → (out : List Token) → with_expansion s.definitions t s.out ≡ Ok out → Expands s (record s { out = out }) t
+    fitted : is_punctuator s.definitions.bytes t (codes "#") ≡ false → (out : List Token) → with_expansion s.definitions t s.out ≡ Ok out → Expands s (record s { out = out }) t
     fitted plain out is = by (nat_lt token_limit (length s.out + length (expansion_of_token s.definitions.bytes s.definitions.macros t))) refl is
       where
         by : (b : Bool) → nat_lt token_limit (length s.out + length (expansion_of_token s.definitions.bytes s.definitions.macros t)) ≡ b → cond b (Err (fault.Expanded t.line)) (Ok (s.out ++ expansion_of_token s.definitions.bytes s.definitions.macros t)) ≡ Ok out → Expands s (record s { out = out }) t
@@ -110,18 +110,18 @@ rest_holds : (p : Token → Bool) (tokens : List Token) → list_all p tokens �
 rest_holds p tokens all = all_take p _ tokens all
 
 module _ (p : Token → Bool) (P : State → Type 0) (at_token : (s s' : State) (t : Token) → P s → p t ≡ true → after_token s t ≡ Ok s' → P s')
-    (at_directive : (s s' : State) (line : ℕ) (tokens : List Token) → P s → list_all p tokens ≡ true → after_directive line s (command_of s.definitions.bytes tokens) ≡ Ok s' → P s') where
+    (at_directive : (s s' : State) (line : ℕ) (tokens : List Token) → P s → list_all p tokens ≡ true → after_directive line s tokens ≡ Ok s' → P s') where
   pub blocks_keep : (bytes : List ℕ) (inside : ℕ) (tokens : List Token) (s : State) → list_all p tokens ≡ true → P s → Keeps P (after_blocks s (blocks_of bytes inside tokens))
   unfolding blocks_of after_blocks
   blocks_keep bytes inside [] s all h = h
   blocks_keep bytes (suc inside) (t ∷ tokens) s all h = blocks_keep bytes inside tokens s (and_parts (p t) (list_all p tokens) all).1 h
   blocks_keep bytes zero (t ∷ tokens) s all h =
       let both = and_parts (p t) (list_all p tokens) all in
-      by both.0 both.1 (λ (inside : ℕ) (after : State) (k : P after). blocks_keep bytes inside tokens after both.1 k) (t.first && is_mark bytes t (codes "#")) refl
+      by both.0 both.1 (λ (inside : ℕ) (after : State) (k : P after). blocks_keep bytes inside tokens after both.1 k) (t.first && is_punctuator bytes t (codes "#")) refl
     where
-      by : p t ≡ true → list_all p tokens ≡ true → ((inside : ℕ) (after : State) → P after → Keeps P (after_blocks after (blocks_of bytes inside tokens))) → (b : Bool) → (t.first && is_mark bytes t (codes "#")) ≡ b → Keeps P (after_blocks s (blocks_of bytes zero (t ∷ tokens)))
+      by : p t ≡ true → list_all p tokens ≡ true → ((inside : ℕ) (after : State) → P after → Keeps P (after_blocks after (blocks_of bytes inside tokens))) → (b : Bool) → (t.first && is_punctuator bytes t (codes "#")) ≡ b → Keeps P (after_blocks s (blocks_of bytes zero (t ∷ tokens)))
       by one behind deep true e =
-          rw e (keeps_then P (after_directive t.line s (command_of s.definitions.bytes (rest_of_line tokens))) _
+          rw e (keeps_then P (after_directive t.line s (rest_of_line tokens)) _
           (λ after is. deep (length (rest_of_line tokens)) after (at_directive s after t.line (rest_of_line tokens) h (rest_holds p tokens behind) is)))
       by one behind deep false e = rw e (keeps_then P (after_token s t) _ (λ after is. deep 0 after (at_token s after t h one is)))
 
@@ -132,13 +132,13 @@ pub record Holds (p : Token → Bool) (s : State) : Type 0 where
   pub bodies : BodiesHold p s.definitions.macros
   pub out : list_all p s.out ≡ true
 
-or_mark-all : (bytes : List ℕ) (p : Token → Bool) (tokens : List Token) → list_all p tokens ≡ true → list_all (or_mark bytes p) tokens ≡ true
-or_mark-all bytes p [] all = refl
-or_mark-all bytes p (t ∷ tokens) all =
+or_punctuator-all : (bytes : List ℕ) (p : Token → Bool) (tokens : List Token) → list_all p tokens ≡ true → list_all (or_punctuator bytes p) tokens ≡ true
+or_punctuator-all bytes p [] all = refl
+or_punctuator-all bytes p (t ∷ tokens) all =
     let both = and_parts (p t) (list_all p tokens) all in
-    rw (both.0, or_mark-all bytes p tokens both.1) refl
+    rw (both.0, or_punctuator-all bytes p tokens both.1) refl
 
-pub directive_holds : (p : Token → Bool) (s s' : State) (line : ℕ) (tokens : List Token) → Holds p s → list_all (or_mark s.definitions.bytes p) tokens ≡ true → after_directive line s (command_of s.definitions.bytes tokens) ≡ Ok s' → Holds p s'
+pub directive_holds : (p : Token → Bool) (s s' : State) (line : ℕ) (tokens : List Token) → Holds p s → list_all (or_punctuator s.definitions.bytes p) tokens ≡ true → after_directive line s tokens ≡ Ok s' → Holds p s'
 directive_holds p s s' line tokens h all e =
     let follows = kept (Follows p s) _ s' (directive_follows p s line tokens all) e in
     record { bodies = follows.bodies h.bodies; out = ap (list_all p) follows.out ∙ h.out }
@@ -154,7 +154,7 @@ token_holds p keeps s s' t h one e = ⊎_elim (λ same. subst (Holds p) (sym sam
 
 pub list_holds : (p : Token → Bool) → KeepsPlace p → (bytes : List ℕ) (tokens : List Token) (s s' : State) → list_all p tokens ≡ true → Holds p s → after_blocks s (blocks_of bytes 0 tokens) ≡ Ok s' → Holds p s'
 list_holds p keeps bytes tokens s s' all h e =
-    kept (Holds p) _ s' (blocks_keep p (Holds p) (λ a b t h one is. token_holds p keeps a b t h one is) (λ a b line ts h one is. directive_holds p a b line ts h (or_mark-all a.definitions.bytes p ts one) is) bytes 0 tokens s all h) e
+    kept (Holds p) _ s' (blocks_keep p (Holds p) (λ a b t h one is. token_holds p keeps a b t h one is) (λ a b line ts h one is. directive_holds p a b line ts h (or_punctuator-all a.definitions.bytes p ts one) is) bytes 0 tokens s all h) e
 
 -- ---- the end of the list
 
@@ -211,7 +211,7 @@ end_token : (s : State) (t : Token) → is_end t.kind ≡ true → Holds is_inne
 end_token s t e h =
     let is = end_is t.kind e in
     keeps_cond EndsOnce (not (is_active s.groups) && not (same_kind t.kind End)) (Ok s) _ (λ g. absurd_and (not (is_active s.groups)) (ap (λ k. not (is_active s.groups) && not (same_kind k End)) (sym is) ∙ g))
-    (λ _. keeps_cond EndsOnce (is_mark s.definitions.bytes t (codes "#")) (Err (fault.Directive t.line)) _ (λ _. tt)
+    (λ _. keeps_cond EndsOnce (is_punctuator s.definitions.bytes t (codes "#")) (Err (fault.Directive t.line)) _ (λ _. tt)
     (λ _. keeps_then EndsOnce (with_expansion s.definitions t s.out) _ (λ out g.
     by (nat_lt token_limit (length s.out + length (expansion_of_token s.definitions.bytes s.definitions.macros t))) out (end_stays s.definitions.bytes s.definitions.macros t is) g)))
   where
@@ -235,19 +235,19 @@ ends_blocks bytes (suc inside) (t ∷ []) s once line h = absurd (not_inner t on
 ends_blocks bytes (suc inside) (t ∷ u ∷ tokens) s once line h =
     ends_blocks bytes inside (u ∷ tokens) s (and_parts (is_inner t) (ends_once (u ∷ tokens)) once).1 (and_parts (is_inner t) (list_all is_inner (take inside (u ∷ tokens))) line).1 h
 ends_blocks bytes zero (t ∷ []) s once line h =
-    let plain : (t.first && is_mark bytes t (codes "#")) ≡ false = rw (end_is t.kind once) (and_false t.first) in
+    let plain : (t.first && is_punctuator bytes t (codes "#")) ≡ false = rw (end_is t.kind once) (and_false t.first) in
     rw plain (keeps_then EndsOnce (after_token s t) _ (λ after is. kept EndsOnce _ after (end_token s t once h) is))
 ends_blocks bytes zero (t ∷ u ∷ tokens) s once line h =
     let both = and_parts (is_inner t) (ends_once (u ∷ tokens)) once in
     by both.0 (λ (inside : ℕ) (after : State) (in_line : list_all is_inner (take inside (u ∷ tokens)) ≡ true) (k : Holds is_inner after). ends_blocks bytes inside (u ∷ tokens) after both.1 in_line k)
-    (t.first && is_mark bytes t (codes "#")) refl
+    (t.first && is_punctuator bytes t (codes "#")) refl
   where
-    by : is_inner t ≡ true → ((inside : ℕ) (after : State) → list_all is_inner (take inside (u ∷ tokens)) ≡ true → Holds is_inner after → Keeps EndsOnce (after_blocks after (blocks_of bytes inside (u ∷ tokens)))) → (b : Bool) → (t.first && is_mark bytes t (codes "#")) ≡ b → Keeps EndsOnce (after_blocks s (blocks_of bytes zero (t ∷ u ∷ tokens)))
+    by : is_inner t ≡ true → ((inside : ℕ) (after : State) → list_all is_inner (take inside (u ∷ tokens)) ≡ true → Holds is_inner after → Keeps EndsOnce (after_blocks after (blocks_of bytes inside (u ∷ tokens)))) → (b : Bool) → (t.first && is_punctuator bytes t (codes "#")) ≡ b → Keeps EndsOnce (after_blocks s (blocks_of bytes zero (t ∷ u ∷ tokens)))
     by inner deep true e =
         let rest = rest_of_line (u ∷ tokens) in
         let in_line : list_all is_inner (take (length rest) (u ∷ tokens)) ≡ true = ap (list_all is_inner) (sym (take_while-front stands_behind (u ∷ tokens))) ∙ rest_is_inner (u ∷ tokens) in
-        rw e (keeps_then EndsOnce (after_directive t.line s (command_of s.definitions.bytes rest)) _
-        (λ after is. deep (length rest) after in_line (directive_holds is_inner s after t.line rest h (or_mark-all s.definitions.bytes is_inner rest (rest_is_inner (u ∷ tokens))) is)))
+        rw e (keeps_then EndsOnce (after_directive t.line s rest) _
+        (λ after is. deep (length rest) after in_line (directive_holds is_inner s after t.line rest h (or_punctuator-all s.definitions.bytes is_inner rest (rest_is_inner (u ∷ tokens))) is)))
     by inner deep false e = rw e (keeps_then EndsOnce (after_token s t) _ (λ after is. deep 0 after refl (token_holds is_inner (λ name v. refl) s after t h inner is)))
 
 -- ---- the whole

@@ -11,8 +11,6 @@ pub mod Steps
 pub mod Blocks
 pub mod Balance
 pub mod ConditionFrames
-pub mod ConditionMarks
-pub mod ConditionValues
 pub mod ConditionReads
 pub mod ConditionSteps
 pub mod ConditionRuns

@@ -4,7 +4,7 @@ use Rattle.std.proofs.lemmas.Bool.{and_parts, le-ltb}
 use Rattle.std.proofs.lemmas.List.{append-nil}
 use Rattle.std.specs.List.{list_all}
 use Rattle.c_lexer.specs.declared.token.Token.{Token}
-use Rattle.c_preproc.specs.Texts.{text_of, same_text, is_name, is_mark}
+use Rattle.c_preproc.specs.Texts.{text_of, same_text, is_name, is_punctuator}
 use Rattle.c_preproc.specs.Directives.{Plain, blocks_of}
 use Rattle.c_preproc.specs.Macros.{expansion_of_token, replacement}
 use Rattle.c_preproc.specs.Groups.{unbalanced_line}
@@ -22,7 +22,7 @@ unfolding blocks_of
 untouched_blocks texts [] h = refl
 untouched_blocks texts (token ∷ tokens) h =
     let both = and_parts (is_untouched texts token) (list_all (is_untouched texts) tokens) h in
-    let no_hash = not_true (is_mark texts token (codes "#")) (and_parts (not (is_mark texts token (codes "#"))) _ both.0).0 in
+    let no_hash = not_true (is_punctuator texts token (codes "#")) (and_parts (not (is_punctuator texts token (codes "#"))) _ both.0).0 in
     let behind = untouched_blocks texts tokens both.1 in
     rw (no_hash, and_false, behind) refl
 
@@ -50,7 +50,7 @@ unfolding after_blocks
 untouched_after bytes texts out [] few h = ap (λ ts. Ok (with_out bytes texts ts)) (sym (append-nil out))
 untouched_after bytes texts out (token ∷ tokens) few h =
     let both = and_parts (is_untouched texts token) (list_all (is_untouched texts) tokens) h in
-    let one = and_parts (not (is_mark texts token (codes "#"))) _ both.0 in
+    let one = and_parts (not (is_punctuator texts token (codes "#"))) _ both.0 in
     let fits = le-ltb token_limit (length out + 1) (omega arith) in
     let step : after_token (with_out bytes texts out) token ≡ Ok (with_out bytes texts (out ++ token ∷ [])) = rw (not_true _ one.0, untouched_token bytes texts token (not_true _ one.1), fits) refl in
     ap (λ r. and_then r (λ after. after_blocks after (map Plain tokens))) step

@@ -1,7 +1,5 @@
 -- What describes the code and not preprocessing: its table, its expander, its reader of conditions, and how its
 -- types are seen as the definitions'.
-pub mod Kinds
-pub mod Nesting
 pub mod Reading
 pub mod Table
 pub mod Expander

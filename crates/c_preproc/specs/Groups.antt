@@ -1,11 +1,11 @@
 -- Conditional groups, by nesting alone.
-use Rattle.std.specs.Prelude.{ℕ, min, Bool, false, true, cond, ◌||◌, List, [], ◌∷◌, Option, Some, None}
-use Rattle.c_preproc.specs.Directives.{Block, Directive, Plain, Command, Nothing, Include, Define, Undefine, If, IfDefined, IfUndefined, ElseIf, Else, EndIf, Pragma, Unknown, command_of}
-
--- an `if` that is open: its line, and whether its `else` came
-pub record Open : Type 0 where
-  pub line : ℕ
-  pub has_else : Bool
+use Rattle.std.specs.Prelude.{ℕ, min, Bool, false, true, if◌then◌else◌, List, [], ◌∷◌, drop, Option, Some, None}
+use Rattle.c_preproc.specs.declared.directives.DirectiveWord.{DirectiveWord}
+use Rattle.c_preproc.specs.declared.directives.DirectiveWord.TheVariants.{If, IfDefined, IfUndefined, ElseIf, Else, EndIf}
+use Rattle.c_preproc.specs.declared.groups.Open.{Open}
+use Rattle.c_preproc.specs.declared.groups.Step.{Step}
+use Rattle.c_preproc.specs.declared.groups.Step.TheVariants.{Balanced, Misplaced, Alone}
+use Rattle.c_preproc.specs.Directives.{Block, Directive, Plain, directive_word}
 
 -- the earlier of two lines
 abbrev pub earlier : Option ℕ → Option ℕ → Option ℕ
@@ -13,41 +13,55 @@ earlier None b = b
 earlier (Some a) None = Some a
 earlier (Some a) (Some b) = Some (min a b)
 
--- the line of the outermost `if` that has no end
+-- the line of the outermost `if` that has no end; the innermost is the first
 abbrev pub outermost : List Open → Option ℕ
 outermost [] = None
 outermost (o ∷ []) = Some o.line
 outermost (o ∷ p ∷ rest) = outermost (p ∷ rest)
 
--- a part of the innermost `if`: its line is a fault where no `if` is open, or where its `else` came already
-abbrev pub part : ℕ → Bool → List Open → (List Open → Option ℕ) → Option ℕ
-part line is_else [] next = Some line
-part line is_else (o ∷ open_ifs) next =
-    earlier (cond o.has_else (Some line) None) (next (record o { has_else = is_else || o.has_else } ∷ open_ifs))
+-- a part of the innermost `if`: misplaced behind its `else`
+abbrev pub step_of_part : List Open → Step
+step_of_part [] = Alone
+step_of_part (o ∷ opens) = if o.has_else then Misplaced else Balanced
 
-abbrev pub after_end : ℕ → List Open → (List Open → Option ℕ) → Option ℕ
-after_end line [] next = Some line
-after_end line (o ∷ open_ifs) next = next open_ifs
+-- what a directive means for the open `if`s
+abbrev pub step_of : DirectiveWord → List Open → Step
+step_of ElseIf opens = step_of_part opens
+step_of Else opens = step_of_part opens
+step_of EndIf [] = Alone
+step_of _ opens = Balanced
 
--- what a directive does to the open `if`s
-abbrev pub nested : ℕ → Command → List Open → (List Open → Option ℕ) → Option ℕ
-nested line (If tokens) open_ifs next = next (record { line = line; has_else = false } ∷ open_ifs)
-nested line (IfDefined tokens) open_ifs next = next (record { line = line; has_else = false } ∷ open_ifs)
-nested line (IfUndefined tokens) open_ifs next = next (record { line = line; has_else = false } ∷ open_ifs)
-nested line (ElseIf tokens) open_ifs next = part line false open_ifs next
-nested line (Else tokens) open_ifs next = part line true open_ifs next
-nested line (EndIf tokens) open_ifs next = after_end line open_ifs next
-nested line Nothing open_ifs next = next open_ifs
-nested line (Include tokens) open_ifs next = next open_ifs
-nested line (Define tokens) open_ifs next = next open_ifs
-nested line (Undefine tokens) open_ifs next = next open_ifs
-nested line Pragma open_ifs next = next open_ifs
-nested line Unknown open_ifs next = next open_ifs
+abbrev pub with_if : ℕ → List Open → List Open
+with_if line opens = record { line = line; has_else = false } ∷ opens
+
+abbrev pub with_else : List Open → List Open
+with_else [] = []
+with_else (o ∷ opens) = record { line = o.line; has_else = true } ∷ opens
+
+-- the `if`s that are open behind a directive
+abbrev pub opens_after : ℕ → DirectiveWord → List Open → List Open
+opens_after line If opens = with_if line opens
+opens_after line IfDefined opens = with_if line opens
+opens_after line IfUndefined opens = with_if line opens
+opens_after line Else opens = with_else opens
+opens_after line EndIf opens = drop 1 opens
+opens_after line _ opens = opens
+
+-- the line of a directive that is out of place
+abbrev pub fault_line : Step → ℕ → Option ℕ
+fault_line Balanced line = None
+fault_line _ line = Some line
+
+-- the first line that is out of balance, from what is found behind the directive of this line
+abbrev pub after_step : Step → ℕ → Option ℕ → Option ℕ
+after_step Alone line behind = Some line
+after_step step line behind = earlier (fault_line step line) behind
 
 -- the first line that is out of balance: of a part or an end without its `if`, of a part behind an
 -- `else`, or of an `if` without its end
 unfoldable pub unbalanced_line : List ℕ → List Open → List Block → Option ℕ
-unbalanced_line bytes open_ifs [] = outermost open_ifs
-unbalanced_line bytes open_ifs (Plain token ∷ blocks) = unbalanced_line bytes open_ifs blocks
-unbalanced_line bytes open_ifs (Directive hash tokens ∷ blocks) =
-    nested hash.line (command_of bytes tokens) open_ifs (λ after. unbalanced_line bytes after blocks)
+unbalanced_line bytes opens [] = outermost opens
+unbalanced_line bytes opens (Plain token ∷ blocks) = unbalanced_line bytes opens blocks
+unbalanced_line bytes opens (Directive hash tokens ∷ blocks) =
+    let word = directive_word bytes tokens in
+    after_step (step_of word opens) hash.line (unbalanced_line bytes (opens_after hash.line word opens) blocks)

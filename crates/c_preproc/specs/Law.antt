@@ -5,7 +5,7 @@ use Rattle.std.specs.Option.{option_map_or}
 use Rattle.std.specs.List.{flat_map, list_all}
 use Rattle.c_lexer.specs.List.{all_within}
 use Rattle.c_lexer.specs.declared.token.Token.{Token}
-use Rattle.c_preproc.specs.Texts.{text_of, same_text, is_name, is_mark}
+use Rattle.c_preproc.specs.Texts.{text_of, same_text, is_name, is_punctuator}
 use Rattle.c_preproc.specs.Expansion.{expansion_of, with_digits, token_limit}
 use Rattle.c_preproc.specs.Macros.{Macro, body_for, replacement_of, without}
 
@@ -15,7 +15,7 @@ is_filc texts token = is_name token && same_text (codes "__FILC__") (text_of tex
 
 -- no directive begins with the token, and it isn't the one macro that is there at the beginning
 abbrev pub is_untouched : List ℕ → Token → Bool
-is_untouched texts token = not (is_mark texts token (codes "#")) && not (is_filc texts token)
+is_untouched texts token = not (is_punctuator texts token (codes "#")) && not (is_filc texts token)
 
 -- such tokens expand to themselves, if they aren't too many
 abbrev pub ExpandsToItself : List ℕ → List Token → Type 0

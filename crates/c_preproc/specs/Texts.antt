@@ -31,12 +31,12 @@ same_kind a b = number_of_kind a == number_of_kind b
 abbrev pub is_name : Token → Bool
 is_name token = same_kind token.kind Name
 
--- the token is this name; it is this operator or separator
+-- the token is this name; it is this punctuator
 abbrev pub is_word : List ℕ → Token → List ℕ → Bool
 is_word bytes token word = is_name token && same_text (text_of bytes token) word
 
-abbrev pub is_mark : List ℕ → Token → List ℕ → Bool
-is_mark bytes token mark = same_kind token.kind Punct && same_text (text_of bytes token) mark
+abbrev pub is_punctuator : List ℕ → Token → List ℕ → Bool
+is_punctuator bytes token text = same_kind token.kind Punct && same_text (text_of bytes token) text
 
 -- two tokens are the same but for where they stand
 abbrev pub same_token : List ℕ → Token → Token → Bool

@@ -1,9 +1,8 @@
 //! One directive after another: what each changes, and the tokens between them.
 
 ghost use Rattle.std.specs.Prelude.{◌≡◌, [], Ok, List};
-ghost use Rattle.c_preproc.specs.Directives.{blocks_of, command_of};
+ghost use Rattle.c_preproc.specs.Directives.{blocks_of};
 ghost use Rattle.c_preproc.specs.Expansion.{State as DefinedState, after_blocks, after_directive, after_token, carry_out, pass_over};
-ghost use Rattle.c_preproc.specs.Code.Kinds.{command};
 ghost use Rattle.c_preproc.specs.Outcomes.{Gives};
 ghost use Rattle.c_preproc.specs.Code.Seen.{seen};
 
@@ -14,7 +13,7 @@ use crate::fault::PreFault;
 use crate::macros::Macros;
 use crate::names::{define, undefine};
 use crate::state::{Group, State};
-use crate::texts::is_mark;
+use crate::texts::is_punctuator;
 use c_lexer::{Token, TokenKind};
 use std::alloc::Global;
 
@@ -26,7 +25,7 @@ fn carry_out(
     word: DirectiveWord,
     tokens: &[Token],
 ) -> Result<(), PreFault>
-    ensures { Gives (carry_out line (seen state.old) (command word tokens.now))
+    ensures { Gives (carry_out line (seen state.old) word tokens.now)
         (λ _. seen state.new) result }
 {
     match word {
@@ -35,8 +34,8 @@ fn carry_out(
         DirectiveWord::Define => define(alloc, state, line, tokens),
         DirectiveWord::Undefine => undefine(state, line, tokens),
         DirectiveWord::If => open_if(alloc, state, line, tokens),
-        DirectiveWord::IfDefined => open_by_name(state, line, true, tokens),
-        DirectiveWord::IfUndefined => open_by_name(state, line, false, tokens),
+        DirectiveWord::IfDefined => open_by_name(true, state, line, tokens),
+        DirectiveWord::IfUndefined => open_by_name(false, state, line, tokens),
         DirectiveWord::ElseIf => else_if(alloc, state, line, tokens),
         DirectiveWord::Else => else_of(state, line, tokens),
         DirectiveWord::EndIf => end_if(state, line, tokens),
@@ -52,7 +51,7 @@ fn pass_over(
     word: DirectiveWord,
     tokens: &[Token],
 ) -> Result<(), PreFault>
-    ensures { Gives (pass_over line (seen state.old) (command word tokens.now))
+    ensures { Gives (pass_over line (seen state.old) word tokens.now)
         (λ _. seen state.new) result }
 {
     match word {
@@ -63,12 +62,7 @@ fn pass_over(
         DirectiveWord::ElseIf => else_if(alloc, state, line, tokens),
         DirectiveWord::Else => else_of(state, line, tokens),
         DirectiveWord::EndIf => end_if(state, line, tokens),
-        DirectiveWord::Nothing
-        | DirectiveWord::Include
-        | DirectiveWord::Define
-        | DirectiveWord::Undefine
-        | DirectiveWord::Pragma
-        | DirectiveWord::Unknown => Ok(()),
+        _ => Ok(()),
     }
 }
 
@@ -79,9 +73,7 @@ fn after_directive(
     line: u32,
     tokens: &[Token],
 ) -> Result<(), PreFault>
-    ensures { let old = seen state.old in
-        Gives (after_directive line old (command_of old.definitions.bytes tokens.now))
-        (λ _. seen state.new) result }
+    ensures { Gives (after_directive line (seen state.old) tokens.now) (λ _. seen state.new) result }
 {
     let word = directive_word(state.macros.bytes(), tokens);
     let (_, behind) = tokens.split_at(tokens.len().min(1));
@@ -99,7 +91,7 @@ fn after_token(state: &mut State, token: Token) -> Result<(), PreFault>
     if !is_active(&state.groups) && !matches!(token.kind, TokenKind::End) {
         return Ok(());
     }
-    if is_mark(state.macros.bytes(), token, b"#") {
+    if is_punctuator(state.macros.bytes(), token, b"#") {
         return Err(PreFault::Directive(token.line));
     }
     append_expansion(&mut state.macros, token, &mut state.out)

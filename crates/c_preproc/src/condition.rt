@@ -1,28 +1,28 @@
 //! Conditions: each `defined` decided, macros expanded in what is left, and the value of that.
 
 ghost use Rattle.std.specs.Prelude.{◌≡◌, ◌≤◌, ◌<◌, ◌^◌, length, IfSome};
-ghost use Rattle.c_preproc.specs.Expansion.{asked, condition_of, decided_of, or_directive, truth_token};
+ghost use Rattle.c_preproc.specs.Expansion.{operand_of_defined, condition_of, decided_of, or_directive, truth_token};
 ghost use Rattle.c_preproc.specs.Outcomes.{Gives};
 
-use crate::condition_items::holds;
+use crate::condition_reader::holds;
 use crate::expansion::append_expansions;
 use crate::fault::PreFault;
 use crate::macros::Macros;
-use crate::texts::{is_mark, is_name, is_word};
+use crate::texts::{is_name, is_punctuator, is_word};
 use c_lexer::{Token, TokenKind};
 use std::alloc::Global;
 
 /// The name that `defined` asks for, and the number of tokens behind `defined` that do so.
-fn asked(bytes: &[u8], tokens: &[Token]) -> Option<(Token, usize)>
-    ensures value { result ≡ asked bytes.now tokens.now }
+fn operand_of_defined(bytes: &[u8], tokens: &[Token]) -> Option<(Token, usize)>
+    ensures value { result ≡ operand_of_defined bytes.now tokens.now }
     ensures within { IfSome result (λ a. a.1 ≤ length tokens.now) }
 {
     match *tokens {
         [name, ..] if is_name(name) => Some((name, 1)),
         [left, name, right, ..]
-            if is_mark(bytes, left, b"(") && is_name(name) && is_mark(bytes, right, b")") => {
-            Some((name, 3))
-        }
+            if is_punctuator(bytes, left, b"(")
+                && is_name(name)
+                && is_punctuator(bytes, right, b")") => { Some((name, 3)) }
         _ => None,
     }
 }
@@ -62,7 +62,7 @@ fn decide(
             rest = behind;
             continue;
         }
-        let Some((name, count)) = asked(bytes, behind) else {
+        let Some((name, count)) = operand_of_defined(bytes, behind) else {
             return Err(PreFault::Directive(line));
         };
         decided.push(truth_token(bytes, macros.is_defined(name), *token))?;

@@ -4,7 +4,7 @@
 //! The contract says that the answers are those of the definitions; these rows say that the definitions
 //! mean C.
 
-use crate::condition_items::holds;
+use crate::condition_reader::holds;
 use c_lexer::{Token, TokenKind, lex};
 use std::alloc::{AllocError, Global};
 use std::test::*;

@@ -1,9 +1,9 @@
 //! Directives of conditional groups: `if` and its kin, `elif`, `else` and `endif`.
 
-ghost use Rattle.std.specs.Prelude.{◌≡◌, ◌∷◌, OnOk, Ok};
-ghost use Rattle.c_preproc.specs.Expansion.{after_group, bare, condition_of, else_if, else_of, end_if, group_if, is_active, is_as_wanted, is_defined, only_name, open_if, or_directive, with_groups};
+ghost use Rattle.std.specs.Prelude.{◌≡◌, ◌∷◌, OnOk, Ok, reverse};
+ghost use Rattle.c_preproc.specs.Expansion.{after_group, bare, condition_of, else_if, else_of, end_if, group_if, is_active, open_by_name, open_if, with_groups};
 ghost use Rattle.c_preproc.specs.Outcomes.{Gives, and_then};
-ghost use Rattle.c_preproc.specs.Code.Seen.{group_of, groups_of, seen};
+ghost use Rattle.c_preproc.specs.Code.Seen.{seen};
 
 use crate::condition::condition_of;
 use crate::fault::PreFault;
@@ -14,7 +14,7 @@ use std::alloc::{AllocError, Global};
 
 /// Whether what stands behind these open `if`s is in an active group.
 pub fn is_active(groups: &[Group]) -> bool
-    ensures { result ≡ is_active (groups_of groups.now) }
+    ensures { result ≡ is_active (reverse groups.now) }
 {
     match groups.last() {
         None => true,
@@ -24,14 +24,14 @@ pub fn is_active(groups: &[Group]) -> bool
 
 /// The group that a condition chooses.
 fn group_if(holds: bool) -> Group
-    ensures { group_of result ≡ group_if holds }
+    ensures { result ≡ group_if holds }
 {
     if holds { Group::Active } else { Group::Waiting }
 }
 
 /// The group behind this one, if no condition is evaluated.
 fn after_group(group: Group) -> Group
-    ensures { group_of result ≡ after_group (group_of group) }
+    ensures { result ≡ after_group group }
 {
     match group {
         Group::Outside => Group::Outside,
@@ -43,7 +43,7 @@ fn after_group(group: Group) -> Group
 /// Opens an `if`.
 pub fn open_group(state: &mut State, group: Group) -> Result<(), AllocError>
     ensures { let old = seen state.old in
-        OnOk result (seen state.new ≡ with_groups old (group_of group ∷ old.groups)) }
+        OnOk result (seen state.new ≡ with_groups old (group ∷ old.groups)) }
 {
     state.groups.push(group)?;
     Ok(())
@@ -68,14 +68,12 @@ pub fn open_if(
 
 /// `ifdef` and `ifndef`.
 pub fn open_by_name(
+    wanted: bool,
     state: &mut State,
     line: u32,
-    wanted: bool,
     tokens: &[Token],
 ) -> Result<(), PreFault>
-    ensures { let old = seen state.old in
-        Gives (and_then (or_directive line (only_name tokens.now))
-        (λ name. Ok (open_if old (is_as_wanted wanted (is_defined old.definitions name)))))
+    ensures { Gives (open_by_name wanted line (seen state.old) tokens.now)
         (λ _. seen state.new) result }
 {
     let Some(name) = only_name(tokens) else {
@@ -109,7 +107,7 @@ pub fn else_if(
 
 /// A word with nothing behind it, which isn't looked at where its `if` isn't.
 fn bare(line: u32, group: Group, tokens: &[Token]) -> Result<(), PreFault>
-    ensures { Gives (bare line (group_of group) tokens.now) (λ _. group_of group) result }
+    ensures { Gives (bare line group tokens.now) (λ _. group) result }
 {
     if matches!(group, Group::Outside) || tokens.is_empty() {
         Ok(())

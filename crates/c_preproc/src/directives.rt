@@ -1,10 +1,9 @@
 //! Directives: where one ends, and what its word is.
 
 ghost use Rattle.std.specs.Prelude.{◌≡◌, ◌≤◌, ◌∷◌, length, take, drop, MatchOption};
-ghost use Rattle.c_preproc.specs.Directives.{rest_of_line, command_of, blocks_of, Plain, Directive};
-ghost use Rattle.c_preproc.specs.Code.Kinds.{command};
+ghost use Rattle.c_preproc.specs.Directives.{blocks_of, directive_word, rest_of_line, word_of, Plain, Directive};
 
-use crate::texts::{is_mark, is_word};
+use crate::texts::{is_punctuator, is_word};
 use c_lexer::{Token, TokenKind};
 
 /// What a directive is, by its word. `Nothing` has no word, and `Unknown` one that isn't known.
@@ -25,7 +24,7 @@ pub enum DirectiveWord {
 }
 
 fn word_of(bytes: &[u8], word: Token) -> DirectiveWord
-    ensures { (rest : _) → command_of bytes.now (word ∷ rest) ≡ command result rest }
+    ensures { result ≡ word_of bytes.now word }
 {
     if is_word(bytes, word, b"include") {
         DirectiveWord::Include
@@ -54,7 +53,7 @@ fn word_of(bytes: &[u8], word: Token) -> DirectiveWord
 
 /// What the directive is that has these tokens behind its `#`.
 pub fn directive_word(bytes: &[u8], tokens: &[Token]) -> DirectiveWord
-    ensures { command_of bytes.now tokens.now ≡ command result (drop 1 tokens.now) }
+    ensures { result ≡ directive_word bytes.now tokens.now }
 {
     match *tokens {
         [] => DirectiveWord::Nothing,
@@ -78,10 +77,11 @@ fn line_rest(tokens: &[Token]) -> usize
 pub fn directive_length(bytes: &[u8], token: Token, behind: &[Token]) -> Option<usize>
     ensures block { MatchOption result
         (blocks_of bytes.now 0 (token ∷ behind.now) ≡ Plain token ∷ blocks_of bytes.now 0 behind.now)
-        (λ count. blocks_of bytes.now 0 (token ∷ behind.now) ≡ Directive token (take count behind.now) ∷ blocks_of bytes.now 0 (drop count behind.now)) }
+        (λ count. blocks_of bytes.now 0 (token ∷ behind.now)
+        ≡ Directive token (take count behind.now) ∷ blocks_of bytes.now 0 (drop count behind.now)) }
     ensures within { MatchOption result (0 ≤ 0) (λ count. count ≤ length behind.now) }
 {
-    if token.first && is_mark(bytes, token, b"#") {
+    if token.first && is_punctuator(bytes, token, b"#") {
         Some(line_rest(behind))
     } else {
         None

@@ -222,7 +222,7 @@ impl Expander {
         requires seated { AreSeated self.now.seats.items (entries_of self.now.stack.items) }
         ensures { result ≡ found_of (setting_of bytes.now table.now) self.now token }
     {
-        let Some(entry) = table.named(bytes, token) else {
+        let Some(entry) = table.entry_of(bytes, token) else {
             return Found::Plain;
         };
         if is_expanded(&self.seats, &self.stack, entry) {
@@ -405,7 +405,7 @@ impl Expander {
             IfOk result (λ fit. Appends fit token_limit more out.old.items out.new.items) }
         ensures store { IsStore (setting_of bytes.now table.now) self.new }
     {
-        let Some(entry) = table.named(bytes, token) else {
+        let Some(entry) = table.entry_of(bytes, token) else {
             return place(token, &[token], out);
         };
         match self.range_of(table, bytes, token, entry)? {

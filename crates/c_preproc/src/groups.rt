@@ -1,13 +1,8 @@
 //! Conditional groups, by nesting alone.
 
-ghost use Rattle.std.specs.Prelude.{◌≡◌, ◌∷◌, [], List, Option, ℕ, IfOk};
-ghost use Rattle.c_lexer.specs.declared.token.Token.{Token};
+ghost use Rattle.std.specs.Prelude.{◌≡◌, [], IfOk, OnOk, reverse};
 ghost use Rattle.c_preproc.specs.Directives.{blocks_of};
-ghost use Rattle.c_preproc.specs.Groups.{earlier, outermost, part, nested, unbalanced_line};
-ghost use Rattle.c_preproc.specs.Code.Kinds.{command};
-ghost use Rattle.c_preproc.specs.Code.Nesting.{after_step};
-ghost use Rattle.c_preproc.specs.Code.Nesting.{opens_of};
-ghost use Rattle.c_preproc.specs.Groups.{Open as DefinedOpen};
+ghost use Rattle.c_preproc.specs.Groups.{earlier, fault_line, opens_after, outermost, step_of, step_of_part, unbalanced_line, with_else, with_if};
 
 use crate::directives::{DirectiveWord, directive_length, directive_word};
 use c_lexer::Token;
@@ -40,61 +35,84 @@ fn earlier(a: Option<u32>, b: Option<u32>) -> Option<u32>
 }
 
 /// The line of the outermost `if` that has no end.
-fn outermost(opened: &[Open]) -> Option<u32>
-    ensures { result ≡ outermost (opens_of opened.now) }
+fn outermost(opens: &[Open]) -> Option<u32>
+    ensures { result ≡ outermost (reverse opens.now) }
 {
-    match opened.first() {
+    match opens.first() {
         None => None,
         Some(first) => Some(first.line),
     }
 }
 
-/// A part of the innermost `if`.
-fn part(opened: &mut Vec<Open>, is_else: bool, line: u32) -> Result<Step, AllocError>
-    ensures { IfOk result (λ step. (next : List DefinedOpen → Option ℕ)
-        → part line is_else (opens_of opened.old.items) next
-        ≡ after_step step line (next (opens_of opened.new.items))) }
+/// A part of the innermost `if`: misplaced behind its `else`.
+fn step_of_part(opens: &[Open]) -> Step
+    ensures { result ≡ step_of_part (reverse opens.now) }
 {
-    let Some(innermost) = opened.pop() else {
-        return Ok(Step::Alone);
-    };
-    opened.push(Open {
-        line: innermost.line,
-        has_else: is_else || innermost.has_else,
-    })?;
-    if innermost.has_else {
-        Ok(Step::Misplaced)
-    } else {
-        Ok(Step::Balanced)
+    match opens.last() {
+        None => Step::Alone,
+        Some(innermost) if innermost.has_else => Step::Misplaced,
+        Some(_) => Step::Balanced,
     }
 }
 
-/// What a directive does to the open `if`s, innermost last.
-fn nest(opened: &mut Vec<Open>, word: DirectiveWord, line: u32) -> Result<Step, AllocError>
-    ensures { IfOk result (λ step. (tokens : List Token) (next : List DefinedOpen → Option ℕ)
-        → nested line (command word tokens) (opens_of opened.old.items) next
-        ≡ after_step step line (next (opens_of opened.new.items))) }
+/// What a directive means for the open `if`s, innermost last.
+fn step_of(word: DirectiveWord, opens: &[Open]) -> Step
+    ensures { result ≡ step_of word (reverse opens.now) }
+{
+    match word {
+        DirectiveWord::ElseIf | DirectiveWord::Else => step_of_part(opens),
+        DirectiveWord::EndIf if opens.is_empty() => Step::Alone,
+        _ => Step::Balanced,
+    }
+}
+
+/// The line of a directive that is out of place.
+fn fault_line(step: Step, line: u32) -> Option<u32>
+    ensures { result ≡ fault_line step line }
+{
+    match step {
+        Step::Balanced => None,
+        Step::Misplaced | Step::Alone => Some(line),
+    }
+}
+
+fn open_if(opens: &mut Vec<Open>, line: u32) -> Result<(), AllocError>
+    ensures { OnOk result (reverse opens.new.items ≡ with_if line (reverse opens.old.items)) }
+{
+    opens.push(Open {
+        line,
+        has_else: false,
+    })?;
+    Ok(())
+}
+
+fn add_else(opens: &mut Vec<Open>) -> Result<(), AllocError>
+    ensures { OnOk result (reverse opens.new.items ≡ with_else (reverse opens.old.items)) }
+{
+    if let Some(innermost) = opens.pop() {
+        opens.push(Open {
+            line: innermost.line,
+            has_else: true,
+        })?;
+    }
+    Ok(())
+}
+
+/// Opens and ends `if`s as a directive does.
+fn nest(opens: &mut Vec<Open>, word: DirectiveWord, line: u32) -> Result<(), AllocError>
+    ensures { OnOk result
+        (reverse opens.new.items ≡ opens_after line word (reverse opens.old.items)) }
 {
     match word {
         DirectiveWord::If | DirectiveWord::IfDefined | DirectiveWord::IfUndefined => {
-            opened.push(Open {
-                line,
-                has_else: false,
-            })?;
-            Ok(Step::Balanced)
+            open_if(opens, line)
         }
-        DirectiveWord::ElseIf => part(opened, false, line),
-        DirectiveWord::Else => part(opened, true, line),
-        DirectiveWord::EndIf => match opened.pop() {
-            Some(_) => Ok(Step::Balanced),
-            None => Ok(Step::Alone),
-        },
-        DirectiveWord::Nothing
-        | DirectiveWord::Include
-        | DirectiveWord::Define
-        | DirectiveWord::Undefine
-        | DirectiveWord::Pragma
-        | DirectiveWord::Unknown => Ok(Step::Balanced),
+        DirectiveWord::Else => add_else(opens),
+        DirectiveWord::EndIf => {
+            let _ = opens.pop();
+            Ok(())
+        }
+        _ => Ok(()),
     }
 }
 
@@ -107,7 +125,7 @@ pub fn unbalanced_line(
     ensures { IfOk result (λ line. line
         ≡ unbalanced_line bytes.now [] (blocks_of bytes.now 0 tokens.now)) }
 {
-    let mut opened = Vec::new(alloc);
+    let mut opens = Vec::new(alloc);
     let mut least = None;
     let mut rest = tokens;
     while let Some((hash, behind)) = rest.split_first() {
@@ -116,12 +134,14 @@ pub fn unbalanced_line(
             continue;
         };
         let (line, after) = behind.split_at(count);
-        match nest(&mut opened, directive_word(bytes, line), hash.line)? {
-            Step::Balanced => {}
-            Step::Misplaced => least = earlier(least, Some(hash.line)),
-            Step::Alone => return Ok(earlier(least, Some(hash.line))),
+        let word = directive_word(bytes, line);
+        let step = step_of(word, &opens);
+        least = earlier(least, fault_line(step, hash.line));
+        if let Step::Alone = step {
+            return Ok(least);
         }
+        nest(&mut opens, word, hash.line)?;
         rest = after;
     }
-    Ok(earlier(least, outermost(&opened)))
+    Ok(earlier(least, outermost(&opens)))
 }

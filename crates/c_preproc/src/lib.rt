@@ -27,8 +27,7 @@
 
 mod carry;
 mod condition;
-mod condition_items;
-mod condition_mark;
+mod condition_item;
 mod condition_reader;
 mod condition_value;
 mod conditionals;

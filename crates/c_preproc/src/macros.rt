@@ -44,7 +44,7 @@ impl Table {
     }
 
     /// The place of the entry that the token names.
-    pub fn named(&self, bytes: &[u8], token: Token) -> Option<usize>
+    pub fn entry_of(&self, bytes: &[u8], token: Token) -> Option<usize>
         ensures { result
             ≡ cond (is_name token) (place_of self.now.index (text_of bytes.now token)) None }
     {

@@ -11,7 +11,7 @@ ghost use Rattle.c_preproc.specs.Texts.{same_tokens, text_of};
 use crate::fault::PreFault;
 use crate::macros::Macros;
 use crate::state::State;
-use crate::texts::{are_same_tokens, is_mark, is_name, text_of};
+use crate::texts::{are_same_tokens, is_name, is_punctuator, text_of};
 use c_lexer::Token;
 use std::alloc::Global;
 
@@ -30,7 +30,7 @@ fn hash_line(bytes: &[u8], tokens: &[Token]) -> Option<u32>
     ensures { result ≡ hash_line bytes.now tokens.now }
 {
     for token in tokens {
-        if is_mark(bytes, *token, b"#") {
+        if is_punctuator(bytes, *token, b"#") {
             return Some(token.line);
         }
     }
@@ -43,7 +43,7 @@ fn has_parameters(bytes: &[u8], name: Token, tokens: &[Token]) -> bool
 {
     match *tokens {
         [] => false,
-        [token, ..] => is_mark(bytes, token, b"(") && token.start == name.end,
+        [token, ..] => is_punctuator(bytes, token, b"(") && token.start == name.end,
     }
 }
 

@@ -1,7 +1,7 @@
 //! Tokens by their texts.
 
 ghost use Rattle.std.specs.Prelude.{◌≡◌};
-ghost use Rattle.c_preproc.specs.Texts.{text_of, is_name, is_word, is_mark, number_of_kind, same_token, same_tokens};
+ghost use Rattle.c_preproc.specs.Texts.{text_of, is_name, is_word, is_punctuator, number_of_kind, same_text, same_token, same_tokens};
 
 use c_lexer::{Token, TokenKind};
 
@@ -14,6 +14,12 @@ pub fn text_of(bytes: &[u8], token: Token) -> &[u8]
     &bytes[start..end]
 }
 
+pub fn is_same_text(a: &[u8], b: &[u8]) -> bool
+    ensures { result ≡ same_text a.now b.now }
+{
+    a == b
+}
+
 pub fn is_name(token: Token) -> bool
     ensures { result ≡ is_name token }
 {
@@ -24,14 +30,14 @@ pub fn is_name(token: Token) -> bool
 pub fn is_word(bytes: &[u8], token: Token, word: &[u8]) -> bool
     ensures { result ≡ is_word bytes.now token word.now }
 {
-    is_name(token) && text_of(bytes, token) == word
+    is_name(token) && is_same_text(text_of(bytes, token), word)
 }
 
-/// Whether the token is this operator or separator.
-pub fn is_mark(bytes: &[u8], token: Token, mark: &[u8]) -> bool
-    ensures { result ≡ is_mark bytes.now token mark.now }
+/// Whether the token is this punctuator.
+pub fn is_punctuator(bytes: &[u8], token: Token, text: &[u8]) -> bool
+    ensures { result ≡ is_punctuator bytes.now token text.now }
 {
-    matches!(token.kind, TokenKind::Punct) && text_of(bytes, token) == mark
+    matches!(token.kind, TokenKind::Punct) && is_same_text(text_of(bytes, token), text)
 }
 
 fn number_of_kind(kind: TokenKind) -> u8
@@ -50,7 +56,8 @@ fn number_of_kind(kind: TokenKind) -> u8
 fn is_same_token(bytes: &[u8], a: Token, b: Token) -> bool
     ensures { result ≡ same_token bytes.now a b }
 {
-    number_of_kind(a.kind) == number_of_kind(b.kind) && text_of(bytes, a) == text_of(bytes, b)
+    number_of_kind(a.kind) == number_of_kind(b.kind)
+        && is_same_text(text_of(bytes, a), text_of(bytes, b))
 }
 
 /// Whether two lists are the same tokens, but for where they stand.

@@ -1,7 +1,7 @@
 //! The whole: the balance of the groups, then the directives and the tokens between them.
 
 ghost use Rattle.std.specs.Prelude.{◌≡◌, ◌≢◌, Some, Ok, Err, IfErr, IfOk};
-ghost use Rattle.c_preproc.specs.Expansion.{with_digits, expansion_of, first_fault, line_of};
+ghost use Rattle.c_preproc.specs.Expansion.{with_digits, expansion_of, first_fault, is_before};
 
 use crate::carry::carry;
 use crate::fault::PreFault;
@@ -17,10 +17,10 @@ const MOST_BYTES: usize = 4_294_967_293;
 /// Expands a token list: carries out its directives in order, and expands macros in the other tokens.
 ///
 /// A fault is the first by its line, and of one line Unbalanced. More than 4,294,967,293 bytes are
-/// NoMemory. A macro's tokens take the line and the library mark of the name that they replace, and
+/// NoMemory. A macro's tokens take the line and the library flag of the name that they replace, and
 /// keep whether they are the first on their line. Memory is taken for the tokens, the macros, the
-/// `if`s that are open and the bytes once more, and while a condition is worked out for its tokens
-/// and its open parts.
+/// `if`s that are open and the bytes once more, for expansions that are kept (at most two lists of
+/// 4,194,304 tokens), and while a condition is worked out for its tokens and its open parts.
 pub fn preprocess(alloc: Global, tokens: &Tokens) -> Result<Tokens, PreFault>
     ensures list { IfOk result (λ out. expansion_of tokens.now.bytes.items tokens.now.list.items
         ≡ Ok out.list.items) }
@@ -44,25 +44,24 @@ pub fn preprocess(alloc: Global, tokens: &Tokens) -> Result<Tokens, PreFault>
     }
 }
 
-fn line_of(fault: PreFault) -> u32
-    ensures { result ≡ line_of fault }
+/// Whether a fault is of an earlier line than this one; want of memory has none.
+fn is_before(fault: PreFault, line: u32) -> bool
+    ensures { result ≡ is_before fault line }
 {
     match fault {
-        PreFault::Directive(line)
-        | PreFault::Header(line)
-        | PreFault::Unbalanced(line)
-        | PreFault::Expanded(line) => line,
-        PreFault::NoMemory => 0,
+        PreFault::Directive(at)
+        | PreFault::Header(at)
+        | PreFault::Unbalanced(at)
+        | PreFault::Expanded(at) => at < line,
+        PreFault::NoMemory => true,
     }
 }
 
 /// The fault of the balance on this line, or another fault that is earlier.
 fn earlier_fault(unbalanced: u32, fault: PreFault) -> PreFault
-    ensures no_memory { fault ≡ PreFault.NoMemory → result ≡ PreFault.NoMemory }
-    ensures first { fault ≢ PreFault.NoMemory → first_fault (Some unbalanced) (Err fault)
-        ≡ Err result }
+    ensures { first_fault (Some unbalanced) (Err fault) ≡ Err result }
 {
-    if fault == PreFault::NoMemory || line_of(fault) < unbalanced {
+    if is_before(fault, unbalanced) {
         fault
     } else {
         PreFault::Unbalanced(unbalanced)

@@ -4,4 +4,4 @@ use Rattle.c_preproc.proofs.Balance.{outermost-first}
 use Rattle.c_preproc.proofs.groups.outermost.Goals as goal
 
 pub returns-in-Some : goal.returns-in-Some
-returns-in-Some c = outermost-first c.args.opened.now c.in-Some.first.now (grind (arith, common_steps)) (grind (arith, common_steps))
+returns-in-Some c = outermost-first c.args.opens.now c.in-Some.first.now (grind (arith, common_steps)) (grind (arith, common_steps))

@@ -1,6 +1,6 @@
 use Rattle.std.proofs.Common.{arith, ◌∙◌}
-use Rattle.c_preproc.proofs.ConditionFrames.{end_settled, end_open, end_empty}
-use Rattle.c_preproc.proofs.condition_reader.settle_all.Goals as goal
+use Rattle.c_preproc.proofs.ConditionFrames.{end_reduced, end_open, end_empty}
+use Rattle.c_preproc.proofs.condition_reader.reduce_all.Goals as goal
 
 pub returns-in_err-whole : goal.returns-in_err-whole
 returns-in_err-whole c =
@@ -10,7 +10,7 @@ returns-in_err-whole c =
 pub loop-frame-preserved : goal.loop-frame-preserved
 loop-frame-preserved c =
     let l = c.loop-frame in
-    end_settled l.frames.items c.pop.new.self.items c.in-Some.frame l.value c.in_ok-whole.whole _ c.in-Some.ensures.items c.in_ok-whole.ensures l.invariant
+    end_reduced l.frames.items c.pop.new.self.items c.in-Some.frame l.value c.in_ok-whole.whole _ c.in-Some.ensures.items c.in_ok-whole.ensures l.invariant
 
 pub returns : goal.returns
 returns c =

@@ -4,7 +4,7 @@ use Rattle.c_preproc.specs.Condition.{truth_of_items}
 use Rattle.c_preproc.specs.Expansion.{items_of}
 use Rattle.c_preproc.specs.Code.Reading.{state}
 use Rattle.c_preproc.proofs.ConditionItems.{answer}
-use Rattle.c_preproc.proofs.condition_items.holds.Given as goal
+use Rattle.c_preproc.proofs.condition_reader.holds.Given as goal
 
 -- the answer of the tokens that are left is that of all
 abbrev pub invariant-loop-token : goal.invariant-loop-token
