@@ -1,5 +1,5 @@
 -- How much of the items a reading takes: an expression one at least, and no reading adds any.
-use Rattle.std.proofs.Common.{codes, ℕ, zero, suc, ◌+◌, ◌≤◌, ◌==◌, Bool, true, false, cond, List, [], ◌∷◌, length, Option, Some, None, arith}
+use Rattle.std.proofs.Common.{ℕ, zero, suc, ◌+◌, ◌≤◌, ◌==◌, Bool, true, false, cond, List, [], ◌∷◌, length, Option, Some, None, arith}
 use Rattle.std.specs.Option.{option_and_then}
 use Rattle.c_preproc.specs.declared.condition_item.Sign.{Sign}
 use Rattle.c_preproc.specs.declared.condition_item.Joint.{Joint}

@@ -9,9 +9,8 @@ use Rattle.c_preproc.specs.declared.condition_item.Item.{Item}
 use Rattle.c_preproc.specs.declared.condition_item.Item.TheVariants as item
 use Rattle.c_preproc.specs.declared.condition_reader.Frame.{Frame}
 use Rattle.c_preproc.specs.declared.condition_reader.Frame.TheVariants.{Sign as SignFrame, Parenthesis, Right, Yes, No}
-use Rattle.c_preproc.specs.declared.condition_reader.Mode.TheVariants.{Behind}
 use Rattle.c_preproc.specs.Condition.{Tree, Prefix, Infix, Choice, Read, then_read, then_separator, Task, Above, Chain, highest_level, is_open, is_close, is_colon, is_question, joint_in, precedence, operand, choice, chain, read_tree, whole_tree, tree_of, truth, value_of, value_of_sign, value_of_joint, value_of_choice, truth_of_items}
-use Rattle.c_preproc.specs.Code.Reading.{top_floor, whole, shift, shift_first, shift_sign, state, with_frame, go_on, reduce_all}
+use Rattle.c_preproc.specs.Code.Reading.{top_floor, whole, shift, shift_first, shift_sign, with_frame, go_on, reduce_all}
 use Rattle.c_preproc.proofs.ConditionFrames.{shift_in}
 use Rattle.c_preproc.proofs.ConditionReads.{Reader, TakesItems, takes}
 use Rattle.c_preproc.proofs.ConditionSteps.{run, behind, wanted, Next, followed, followed-then, shift-low, shift-same, shift-high, shift-question, shift-joint, pops, after_colon, after_close, run-same, run-opens}

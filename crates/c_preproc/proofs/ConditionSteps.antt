@@ -2,8 +2,7 @@
 use Rattle.std.proofs.Common.{◌≡◌, ℕ, ◌+◌, ◌≤◌, ◌==◌, ◌&&◌, nat_lt, nat_le, Bool, true, false, cond, List, [], ◌∷◌, length, Option, Some, None, refl, ap, sym, ◌∙◌, arith, inl, inr}
 use Rattle.std.proofs.lemmas.Bool.{cases_eq, ne_eqb, eq-eqb, lt-ltb, le-ltb, le-leb, lt-leb, cases_lt, cond-false, cond-true}
 use Rattle.std.proofs.Math.Bool.{and-false}
-use Rattle.std.specs.Option.{option_map, option_and_then}
-use Rattle.filc_num.specs.declared.integer.BinOp.{BinOp}
+use Rattle.std.specs.Option.{option_and_then}
 use Rattle.filc_num.specs.declared.integer.BinOp.TheVariants as op
 use Rattle.c_preproc.specs.declared.condition_item.Value.{Value}
 use Rattle.c_preproc.specs.declared.condition_item.Joint.{Joint}

@@ -14,7 +14,7 @@ use Rattle.c_preproc.specs.Directives.{blocks_of, rest_of_line}
 use Rattle.c_preproc.specs.Macros.{Definitions, Macro, body_for, expansion_of_token, macro_of, placed_at, replacement, replacement_of, without}
 use Rattle.c_preproc.specs.Expansion.{State, after_blocks, after_directive, after_token, filc_macro, first_state, is_active, token_limit, with_digits, with_expansion}
 use Rattle.c_preproc.proofs.Lists.{and_false, all_append, all_take}
-use Rattle.c_preproc.proofs.Blocks.{take_while-front, take_while-pass, take_while-stop}
+use Rattle.c_preproc.proofs.Blocks.{stands_behind, take_while-front, take_while-pass, take_while-stop}
 use Rattle.c_preproc.proofs.Carried.{BodiesHold, Follows, Keeps, any_token, directive_bytes, directive_follows, kept, keeps_cond, keeps_then, or_punctuator, token_bytes}
 
 -- ---- what an expansion is made of
@@ -109,21 +109,36 @@ token_gives s s' t e =
 rest_holds : (p : Token → Bool) (tokens : List Token) → list_all p tokens ≡ true → list_all p (rest_of_line tokens) ≡ true
 rest_holds p tokens all = all_take p _ tokens all
 
+-- a fact of the state and of the tokens that are left
+module _ (P : List Token → State → Type 0) (inside : (s : State) (t : Token) (rest : List Token) → P (t ∷ rest) s → P rest s)
+    (at_token : (s s' : State) (t : Token) (rest : List Token) → P (t ∷ rest) s → after_token s t ≡ Ok s' → P rest s')
+    (at_directive : (s s' : State) (line : ℕ) (t : Token) (rest : List Token) → P (t ∷ rest) s → after_directive line s (rest_of_line rest) ≡ Ok s' → P rest s') where
+  pub tokens_keep : (bytes : List ℕ) (within : ℕ) (tokens : List Token) (s : State) → P tokens s → Keeps (P []) (after_blocks s (blocks_of bytes within tokens))
+  unfolding blocks_of after_blocks
+  tokens_keep bytes within [] s h = h
+  tokens_keep bytes (suc within) (t ∷ tokens) s h = tokens_keep bytes within tokens s (inside s t tokens h)
+  tokens_keep bytes zero (t ∷ tokens) s h =
+      by (λ (within : ℕ) (after : State) (k : P tokens after). tokens_keep bytes within tokens after k) (t.first && is_punctuator bytes t (codes "#")) refl
+    where
+      by : ((within : ℕ) (after : State) → P tokens after → Keeps (P []) (after_blocks after (blocks_of bytes within tokens))) → (b : Bool) → (t.first && is_punctuator bytes t (codes "#")) ≡ b → Keeps (P []) (after_blocks s (blocks_of bytes zero (t ∷ tokens)))
+      by deep true e =
+          rw e (keeps_then (P []) (after_directive t.line s (rest_of_line tokens)) _ (λ after is. deep (length (rest_of_line tokens)) after (at_directive s after t.line t tokens h is)))
+      by deep false e = rw e (keeps_then (P []) (after_token s t) _ (λ after is. deep 0 after (at_token s after t tokens h is)))
+
+-- a fact of the state, where the tokens that are left pass a test
 module _ (p : Token → Bool) (P : State → Type 0) (at_token : (s s' : State) (t : Token) → P s → p t ≡ true → after_token s t ≡ Ok s' → P s')
     (at_directive : (s s' : State) (line : ℕ) (tokens : List Token) → P s → list_all p tokens ≡ true → after_directive line s tokens ≡ Ok s' → P s') where
   pub blocks_keep : (bytes : List ℕ) (inside : ℕ) (tokens : List Token) (s : State) → list_all p tokens ≡ true → P s → Keeps P (after_blocks s (blocks_of bytes inside tokens))
-  unfolding blocks_of after_blocks
-  blocks_keep bytes inside [] s all h = h
-  blocks_keep bytes (suc inside) (t ∷ tokens) s all h = blocks_keep bytes inside tokens s (and_parts (p t) (list_all p tokens) all).1 h
-  blocks_keep bytes zero (t ∷ tokens) s all h =
-      let both = and_parts (p t) (list_all p tokens) all in
-      by both.0 both.1 (λ (inside : ℕ) (after : State) (k : P after). blocks_keep bytes inside tokens after both.1 k) (t.first && is_punctuator bytes t (codes "#")) refl
+  blocks_keep bytes inside tokens s all h =
+      keeps_weaker _ (tokens_keep (λ rest after. P after × (list_all p rest ≡ true))
+      (λ after t rest k. (k.0, (and_parts (p t) (list_all p rest) k.1).1))
+      (λ a b t rest k is. let both = and_parts (p t) (list_all p rest) k.1 in (at_token a b t k.0 both.0 is, both.1))
+      (λ a b line t rest k is. let both = and_parts (p t) (list_all p rest) k.1 in (at_directive a b line (rest_of_line rest) k.0 (rest_holds p rest both.1) is, both.1))
+      bytes inside tokens s (h, all))
     where
-      by : p t ≡ true → list_all p tokens ≡ true → ((inside : ℕ) (after : State) → P after → Keeps P (after_blocks after (blocks_of bytes inside tokens))) → (b : Bool) → (t.first && is_punctuator bytes t (codes "#")) ≡ b → Keeps P (after_blocks s (blocks_of bytes zero (t ∷ tokens)))
-      by one behind deep true e =
-          rw e (keeps_then P (after_directive t.line s (rest_of_line tokens)) _
-          (λ after is. deep (length (rest_of_line tokens)) after (at_directive s after t.line (rest_of_line tokens) h (rest_holds p tokens behind) is)))
-      by one behind deep false e = rw e (keeps_then P (after_token s t) _ (λ after is. deep 0 after (at_token s after t h one is)))
+      keeps_weaker : (r : Result State PreFault) → Keeps (λ after. P after × (list_all p [] ≡ true)) r → Keeps P r
+      keeps_weaker (Ok after) k = k.0
+      keeps_weaker (Err why) k = tt
 
 -- ---- each token passes a test that the tokens of the list do
 
@@ -185,9 +200,6 @@ inner_then_end (u ∷ v ∷ tokens) t inner e =
     rw (both.0, inner_then_end (v ∷ tokens) t both.1 e) refl
 
 -- the tokens of a line have no End
-abbrev stands_behind : Token → Bool
-stands_behind token = not token.first && not (same_kind token.kind End)
-
 rest_is_inner : (tokens : List Token) → list_all is_inner (rest_of_line tokens) ≡ true
 rest_is_inner [] = refl
 rest_is_inner (t ∷ tokens) = by (rest_is_inner tokens) (stands_behind t) refl

@@ -20,4 +20,9 @@ pub mod Carried
 pub mod Ends
 pub mod Untouched
 pub mod Settled
+pub mod CutOut
+pub mod Lines
+pub mod Defining
+pub mod Alike
+pub mod CutGroups
 pub mod Rows

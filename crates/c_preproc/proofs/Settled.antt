@@ -1,5 +1,5 @@
 -- What an expansion gives: no # is left in it, it isn't too long, and so it expands to itself.
-use Rattle.std.proofs.Common.{codes, ◌≡◌, ℕ, ◌-◌, ◌≤◌, ◌&&◌, ◌||◌, List, [], ◌∷◌, ◌++◌, Bool, true, false, not, cond, nat_lt, nat_le, refl, ap, sym, ◌∙◌, subst, arith, length, take, drop, Option, Some, None, Result, Ok, Err, ⊎_elim, length-drop}
+use Rattle.std.proofs.Common.{codes, ◌≡◌, ℕ, ◌-◌, ◌≤◌, ◌&&◌, ◌||◌, List, [], ◌∷◌, ◌++◌, Bool, true, false, not, cond, nat_le, refl, ap, sym, ◌∙◌, subst, arith, length, take, drop, Option, Some, None, Result, Ok, Err, ⊎_elim, length-drop}
 use Rattle.std.proofs.lemmas.Bool.{and_parts, leb-true}
 use Rattle.std.proofs.lemmas.List.{take-append-le, drop-append-le}
 use Rattle.std.specs.List.{list_all}
@@ -105,7 +105,7 @@ pub last_state : (r : Result State PreFault) (out : List Token) → and_then r (
 last_state (Ok s) out e = (s, refl, cc)
 last_state (Err why) out e = cc
 
-pub expansion_then : (bytes : List ℕ) (tokens out : List Token) → first_fault (unbalanced_line (with_digits bytes) [] (blocks_of (with_digits bytes) 0 tokens)) (list_of bytes tokens) ≡ Ok out → (s : State) × (after_blocks (first_state bytes) (blocks_of (with_digits bytes) 0 tokens) ≡ Ok s) × (s.out ≡ out)
+pub expansion_then : (bytes : List ℕ) (tokens out : List Token) → first_fault (unbalanced_line (with_digits bytes) [] (blocks_of (with_digits bytes) 0 tokens)) (list_of bytes (blocks_of (with_digits bytes) 0 tokens)) ≡ Ok out → (s : State) × (after_blocks (first_state bytes) (blocks_of (with_digits bytes) 0 tokens) ≡ Ok s) × (s.out ≡ out)
 expansion_then bytes tokens out e = last_state _ out (stands _ _ out e)
 
 pub expansions_stay : ExpansionsStay

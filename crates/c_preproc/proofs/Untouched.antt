@@ -13,7 +13,7 @@ use Rattle.c_preproc.specs.Expansion.{State, after_blocks, after_token, filc_mac
 use Rattle.c_preproc.specs.Law.{is_untouched, ExpandsToItself, UntouchedTokensStay}
 use Rattle.c_preproc.proofs.Lists.{and_false}
 
-not_true : (b : Bool) → not b ≡ true → b ≡ false
+pub not_true : (b : Bool) → not b ≡ true → b ≡ false
 not_true true h = cc
 not_true false h = refl
 
@@ -26,7 +26,7 @@ untouched_blocks texts (token ∷ tokens) h =
     let behind = untouched_blocks texts tokens both.1 in
     rw (no_hash, and_false, behind) refl
 
-untouched_balance : (texts : List ℕ) (tokens : List Token) → unbalanced_line texts [] (map Plain tokens) ≡ None
+pub untouched_balance : (texts : List ℕ) (tokens : List Token) → unbalanced_line texts [] (map Plain tokens) ≡ None
 unfolding unbalanced_line
 untouched_balance texts [] = refl
 untouched_balance texts (token ∷ tokens) = untouched_balance texts tokens

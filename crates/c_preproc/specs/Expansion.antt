@@ -264,9 +264,13 @@ abbrev pub first_state : List ℕ → State
 first_state bytes = record { definitions = record { bytes = with_digits bytes; macros = filc_macro bytes ∷ [] }; groups = []; out = [] }
 
 -- the tokens when all blocks are carried out
-abbrev pub list_of : List ℕ → List Token → Outcome
-list_of bytes tokens = and_then (after_blocks (first_state bytes) (blocks_of (with_digits bytes) 0 tokens)) (λ state. Ok state.out)
+abbrev pub list_of : List ℕ → List Block → Outcome
+list_of bytes blocks = and_then (after_blocks (first_state bytes) blocks) (λ state. Ok state.out)
+
+-- the expansion of blocks whose tokens are slices of these bytes, or its first fault
+abbrev pub expansion_of_blocks : List ℕ → List Block → Outcome
+expansion_of_blocks bytes blocks = first_fault (unbalanced_line (with_digits bytes) [] blocks) (list_of bytes blocks)
 
 -- the expansion of a token list whose tokens are slices of these bytes, or its first fault
 abbrev pub expansion_of : List ℕ → List Token → Outcome
-expansion_of bytes tokens = first_fault (unbalanced_line (with_digits bytes) [] (blocks_of (with_digits bytes) 0 tokens)) (list_of bytes tokens)
+expansion_of bytes tokens = expansion_of_blocks bytes (blocks_of (with_digits bytes) 0 tokens)

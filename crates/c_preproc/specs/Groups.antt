@@ -1,5 +1,5 @@
 -- Conditional groups, by nesting alone.
-use Rattle.std.specs.Prelude.{ℕ, min, Bool, false, true, if◌then◌else◌, List, [], ◌∷◌, drop, Option, Some, None}
+use Rattle.std.specs.Prelude.{ℕ, min, false, true, if◌then◌else◌, List, [], ◌∷◌, drop, Option, Some, None}
 use Rattle.c_preproc.specs.declared.directives.DirectiveWord.{DirectiveWord}
 use Rattle.c_preproc.specs.declared.directives.DirectiveWord.TheVariants.{If, IfDefined, IfUndefined, ElseIf, Else, EndIf}
 use Rattle.c_preproc.specs.declared.groups.Open.{Open}

@@ -21,8 +21,8 @@
 //! file. A header's tokens would go through `carry_tokens`, which goes on from any state; until the
 //! headers are there, each `include` is a fault.
 //!
-//! `specs/Law.antt` says what preprocessing is in other words, and `laws` are proved. `proofs/Rows.antt` has files whose expansions were worked
-//! out by hand, which the checker computes.
+//! `specs/Law.antt` says what preprocessing is apart from how the definition goes, and `laws` are proved.
+//! `proofs/Rows.antt` has files whose expansions were worked out by hand, which the checker computes.
 #![tactic(auto)]
 
 mod carry;

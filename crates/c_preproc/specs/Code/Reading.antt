@@ -1,5 +1,5 @@
 -- Operator-precedence parsing: what the reader makes of one item after another, with values in place of trees.
-use Rattle.std.specs.Prelude.{ℕ, Bool, if◌then◌else◌, ◌&&◌, ◌==◌, nat_lt, nat_le, List, [], ◌∷◌, Option, Some, None}
+use Rattle.std.specs.Prelude.{ℕ, if◌then◌else◌, ◌&&◌, ◌==◌, nat_lt, nat_le, List, [], ◌∷◌, Option, Some, None}
 use Rattle.std.specs.Option.{option_map, option_and_then}
 use Rattle.c_preproc.specs.declared.condition_item.Value.{Value}
 use Rattle.c_preproc.specs.declared.condition_item.Sign.{Sign}
