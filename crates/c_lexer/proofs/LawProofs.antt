@@ -1,5 +1,5 @@
 -- Proofs of the laws of comments, of quotes and of what begins nothing.
-use Rattle.std.proofs.Common.{codes, ◌≡◌, ◌≢◌, ℕ, zero, suc, ◌+◌, ◌-◌, ◌<◌, ◌%◌, ◌==◌, ◌&&◌, ◌||◌, not, Bool, true, false, cond, List, [], ◌∷◌, ◌++◌, ◌⊎◌, inl, inr, Option, Some, None, is_some, length, get_or, take, nat_eq, refl, sym, ap, ◌∙◌, subst, append_assoc, eq-eqb, arith}
+use Rattle.std.proofs.Common.{codes, ◌≡◌, ◌≢◌, ℕ, zero, suc, ◌+◌, ◌-◌, ◌<◌, ◌≤◌, ◌%◌, ◌==◌, ◌&&◌, ◌||◌, not, Bool, true, false, cond, List, [], ◌∷◌, ◌++◌, ◌⊎◌, inl, inr, Option, Some, None, is_some, length, get_or, take, nat_eq, refl, sym, ap, ◌∙◌, subst, append_assoc, eq-eqb, arith}
 use Rattle.std.specs.Prelude.{reverse}
 use Rattle.std.proofs.lemmas.List.{append-nil, reverse-append}
 use Rattle.std.specs.List.{position_or_len, prefix_len, starts_with}
@@ -15,7 +15,7 @@ use Rattle.c_lexer.specs.Number.{number_of}
 use Rattle.c_lexer.specs.Quoted.{closing, escapes, values_of}
 use Rattle.std.proofs.lemmas.Bool.Decides.{nat_tests}
 use Rattle.c_lexer.specs.Punct.{is_punct_of_one, is_punct_of_two, is_punct_of_three, punct_length}
-use Rattle.c_lexer.specs.Endings.{CommentsEndAtStarSlash, OnlyTheseAreBad, QuotesCloseUnescaped, begins_something, first_pair}
+use Rattle.c_lexer.specs.Endings.{CommentsEndAtStarSlash, OnlyTheseAreBad, QuotesCloseUnescaped, UnescapedQuotesClose, begins_something, first_pair}
 
 -- a star before makes a difference to a slash alone
 starred : (b : Bool) (c : ℕ) (rest : List ℕ) → comment_rest b (c ∷ rest) ≡ cond (b && c == slash) (Some 1) (comment_rest false (c ∷ rest))
@@ -229,3 +229,28 @@ pub quotes_close_unescaped : QuotesCloseUnescaped
 quotes_close_unescaped quote text n h =
     let found = close_found [] quote text false n refl h in
     record { within = found.within; closes = found.closes; first = found.first; on_line = found.on_line }
+
+close_missing : (before : List ℕ) (quote : ℕ) (text : List ℕ) (escaped : Bool) → escaped ≡ is_odd (trail before) → closing escaped quote text ≡ None → (n : ℕ) → n < length text → ((i : ℕ) → i ≤ n → get_or text i 0 ≢ line_feed) → closes_after before quote text n ≡ false
+unfolding closing
+close_missing before quote [] escaped is h n within on_line = absurd (omega arith)
+close_missing before quote (b ∷ rest) escaped is h n within on_line =
+    by (λ e. close_missing (before ++ b ∷ []) quote rest (escapes escaped b) (escaped-push before b escaped is) e)
+    (b == line_feed) refl (not escaped && b == quote) refl (closing (escapes escaped b) quote rest) refl h
+  where
+    shift : (k : ℕ) → closes_after before quote (b ∷ rest) (suc k) ≡ closes_after (before ++ b ∷ []) quote rest k
+    shift k = ap (λ bs. get_or rest k 0 == quote && trail bs % 2 == 0) (sym (append_assoc before (b ∷ []) (take k rest)))
+
+    at : (n : ℕ) → n < length (b ∷ rest) → ((i : ℕ) → i ≤ n → get_or (b ∷ rest) i 0 ≢ line_feed) → (not escaped && b == quote) ≡ false
+        → ((n : ℕ) → n < length rest → ((i : ℕ) → i ≤ n → get_or rest i 0 ≢ line_feed) → closes_after (before ++ b ∷ []) quote rest n ≡ false) → closes_after before quote (b ∷ rest) n ≡ false
+    at zero within on_line other deep = closes_is before quote b escaped is ∙ other
+    at (suc k) within on_line other deep = shift k ∙ deep k (omega arith) (λ i less. on_line (suc i) (omega arith))
+
+    by : (closing (escapes escaped b) quote rest ≡ None → (n : ℕ) → n < length rest → ((i : ℕ) → i ≤ n → get_or rest i 0 ≢ line_feed) → closes_after (before ++ b ∷ []) quote rest n ≡ false)
+        → (l : Bool) → (b == line_feed) ≡ l → (c : Bool) → (not escaped && b == quote) ≡ c → (o : Option ℕ) → closing (escapes escaped b) quote rest ≡ o → cond l None (cond c (Some 0) (option_map (λ k. k + 1) o)) ≡ None → closes_after before quote (b ∷ rest) n ≡ false
+    by deep true e c f o i g = let same : b ≡ line_feed = grind (arith, nat_tests) in absurd (on_line 0 (omega arith) same)
+    by deep false e true f o i g = cc
+    by deep false e false f None i g = at n within on_line f (deep i)
+    by deep false e false f (Some m) i g = cc
+
+pub unescaped_quotes_close : UnescapedQuotesClose
+unescaped_quotes_close quote text h n within on_line = close_missing [] quote text false refl h n within on_line

@@ -1,5 +1,5 @@
 -- Laws of comments, of quotes and of what begins nothing, in other words than the machines that read them.
-use Rattle.std.specs.Prelude.{codes, ◌≡◌, ◌≢◌, ℕ, ◌+◌, ◌<◌, ◌%◌, ◌==◌, ◌&&◌, ◌||◌, Bool, false, cond, IsTrue, List, [], ◌∷◌, ◌⊎◌, length, reverse, take, nat_eq, slice_index, Option, Some, None}
+use Rattle.std.specs.Prelude.{codes, ◌≡◌, ◌≢◌, ℕ, ◌+◌, ◌<◌, ◌≤◌, ◌%◌, ◌==◌, ◌&&◌, ◌||◌, Bool, false, cond, IsTrue, List, [], ◌∷◌, ◌⊎◌, length, reverse, take, nat_eq, slice_index, Option, Some, None}
 use Rattle.std.specs.List.{prefix_len, starts_with}
 use Rattle.std.specs.Option.{option_map}
 use Rattle.std.specs.Char.{is_ascii_digit}
@@ -37,6 +37,12 @@ pub record IsFirstClose (quote : ℕ) (text : List ℕ) (n : ℕ) : Type 0 where
 -- a text or a character constant closes there
 abbrev pub QuotesCloseUnescaped : Type 0
 QuotesCloseUnescaped = (quote : ℕ) (text : List ℕ) (n : ℕ) → closing false quote text ≡ Some n → IsFirstClose quote text n
+
+-- and where none closes, no such quote stands on the line
+abbrev pub UnescapedQuotesClose : Type 0
+UnescapedQuotesClose =
+    (quote : ℕ) (text : List ℕ) → closing false quote text ≡ None
+    → (n : ℕ) → n < length text → ((i : ℕ) → i ≤ n → slice_index text i ≢ line_feed) → closes_at quote text n ≡ false
 
 -- the byte begins white space, a comment or a token, good or not
 abbrev pub begins_something : ℕ → Bool

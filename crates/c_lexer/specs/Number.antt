@@ -6,11 +6,11 @@ use Rattle.std.specs.Prelude.{codes, ℕ, ◌+◌, ◌*◌, ◌^◌, Bool, cond,
 use Rattle.std.specs.List.{starts_with, take_while, prefix_len, find}
 use Rattle.std.specs.Option.{option_map, option_and_then}
 use Rattle.std.specs.Char.{digit_value, is_digit}
-use Rattle.filc_num.specs.declared.integer.IntType.{IntType}
-use Rattle.filc_num.specs.declared.integer.IntType.TheVariants.{I32, U32, I64, U64}
+use Rattle.filc_num.specs.CIntTypes.{int_type_of}
+use Rattle.filc_num.specs.Integers.{limit_of}
 use Rattle.c_lexer.specs.declared.numbers.Number.{Number}
-use Rattle.c_lexer.specs.declared.numbers.NumberType.{NumberType}
-use Rattle.c_lexer.specs.declared.numbers.NumberType.TheVariants.{Int, UnsignedInt, Long, UnsignedLong, LongLong, UnsignedLongLong}
+use Rattle.filc_num.specs.declared.c_int_type.CIntType.{CIntType}
+use Rattle.filc_num.specs.declared.c_int_type.CIntType.TheVariants.{Int, UnsignedInt, Long, UnsignedLong, LongLong, UnsignedLongLong}
 use Rattle.c_lexer.specs.declared.numbers.Suffix.{Suffix}
 use Rattle.c_lexer.specs.declared.numbers.Suffix.TheVariants.{Plain, U, L, Ul, Ll, Ull}
 
@@ -46,7 +46,7 @@ suffix_of (a ∷ b ∷ c ∷ []) = cond ((is_u a && is_ll b c) || (is_ll a b && 
 suffix_of (a ∷ b ∷ c ∷ d ∷ rest) = None
 
 -- the types that a number may have, the first choice first
-abbrev pub types_of : Bool → Suffix → List NumberType
+abbrev pub types_of : Bool → Suffix → List CIntType
 types_of decimal Plain = cond decimal (Int ∷ Long ∷ []) (Int ∷ UnsignedInt ∷ Long ∷ UnsignedLong ∷ [])
 types_of decimal U = UnsignedInt ∷ UnsignedLong ∷ []
 types_of decimal L = cond decimal (Long ∷ []) (Long ∷ UnsignedLong ∷ [])
@@ -54,29 +54,11 @@ types_of decimal Ul = UnsignedLong ∷ []
 types_of decimal Ll = cond decimal (LongLong ∷ []) (LongLong ∷ UnsignedLongLong ∷ [])
 types_of decimal Ull = UnsignedLongLong ∷ []
 
--- the first number that is too large for the type
-abbrev pub limit_of : NumberType → ℕ
-limit_of Int = 2 ^ 31
-limit_of UnsignedInt = 2 ^ 32
-limit_of Long = 2 ^ 63
-limit_of UnsignedLong = 2 ^ 64
-limit_of LongLong = 2 ^ 63
-limit_of UnsignedLongLong = 2 ^ 64
-
--- the integers of the type
-abbrev pub int_type_of : NumberType → IntType
-int_type_of Int = I32
-int_type_of UnsignedInt = U32
-int_type_of Long = I64
-int_type_of UnsignedLong = U64
-int_type_of LongLong = I64
-int_type_of UnsignedLongLong = U64
-
 -- the number with the first of its types that holds it
 abbrev pub number_with_type : ℕ → Bool → Suffix → Option Number
 number_with_type value decimal suffix =
     option_map (λ c_type. record { value = value; c_type = c_type })
-    (find (λ c_type. nat_lt value (limit_of c_type)) (types_of decimal suffix))
+    (find (λ c_type. nat_lt value (limit_of (int_type_of c_type))) (types_of decimal suffix))
 
 -- the bytes are digits of this base, one at least, and a suffix
 abbrev pub number_in : ℕ → List ℕ → Option Number

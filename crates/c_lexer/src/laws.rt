@@ -1,7 +1,7 @@
 //! Laws of tokens: where comments and quotes end and what is bad, apart from the machines that read them. The
 //! statements are in `specs/Endings.antt`.
 
-ghost use Rattle.c_lexer.specs.Endings.{CommentsEndAtStarSlash, OnlyTheseAreBad, QuotesCloseUnescaped};
+ghost use Rattle.c_lexer.specs.Endings.{CommentsEndAtStarSlash, OnlyTheseAreBad, QuotesCloseUnescaped, UnescapedQuotesClose};
 
 /// A comment ends behind the first star and slash in it.
 #[tactic(auto, using(crate::proofs::LawProofs::comments_end_at_star_slash))]
@@ -19,4 +19,10 @@ pub fn only_these_are_bad()
 /// stands before.
 pub fn quotes_close_unescaped()
     ensures { QuotesCloseUnescaped }
+{}
+
+/// Where none closes, no such quote stands on the line.
+#[tactic(auto, using(crate::proofs::LawProofs::unescaped_quotes_close))]
+pub fn unescaped_quotes_close()
+    ensures { UnescapedQuotesClose }
 {}

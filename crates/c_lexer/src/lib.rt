@@ -24,7 +24,7 @@ mod token;
 mod tokens;
 
 pub use fault::LexFault;
-pub use numbers::{Number, NumberType, read_number};
+pub use numbers::{Number, read_number};
 pub use quoted::{read_character, read_text};
 pub use scan::{lex, lex_library};
 pub use token::{Token, TokenKind};

@@ -3,52 +3,18 @@
 ghost use Rattle.std.specs.Prelude.{◌≡◌, ℕ, ◌+◌, ◌*◌, ◌≤◌, ◌<◌, ◌==◌, nat_lt, length, MatchOption};
 ghost use Rattle.std.specs.List.{find, prefix_len};
 ghost use Rattle.std.specs.Char.{is_digit};
-ghost use Rattle.c_lexer.specs.Number.{value_of, digits_of, fitting, suffix_of, is_u, is_l, is_ll, types_of, limit_of, number_with_type, number_in, number_of, int_type_of};
+ghost use Rattle.c_lexer.specs.Number.{value_of, digits_of, fitting, suffix_of, is_u, is_l, is_ll, types_of, number_with_type, number_in, number_of};
+ghost use Rattle.filc_num.specs.CIntTypes.{int_type_of};
+ghost use Rattle.filc_num.specs.Integers.{limit_of};
 
 use crate::classes::digit_value;
-use filc_num::IntType;
-
-/// The type of an integer constant.
-#[derive(Clone, Copy, Debug, PartialEq, Eq)]
-pub enum NumberType {
-    Int,
-    UnsignedInt,
-    Long,
-    UnsignedLong,
-    LongLong,
-    UnsignedLongLong,
-}
-
-impl NumberType {
-    /// The integers of the type: `long` and `long long` have the same.
-    pub fn int_type(self) -> IntType
-        ensures { result ≡ int_type_of self }
-    {
-        match self {
-            NumberType::Int => IntType::I32,
-            NumberType::UnsignedInt => IntType::U32,
-            NumberType::Long | NumberType::LongLong => IntType::I64,
-            NumberType::UnsignedLong | NumberType::UnsignedLongLong => IntType::U64,
-        }
-    }
-
-    fn holds(self, value: u64) -> bool
-        ensures { result ≡ nat_lt value (limit_of self) }
-    {
-        match self {
-            NumberType::Int => value < 1 << 31,
-            NumberType::UnsignedInt => value < 1 << 32,
-            NumberType::Long | NumberType::LongLong => value < 1 << 63,
-            NumberType::UnsignedLong | NumberType::UnsignedLongLong => true,
-        }
-    }
-}
+use filc_num::CIntType;
 
 /// An integer constant: its value, which is never negative, and the first of its types that holds it.
 #[derive(Clone, Copy, Debug, PartialEq, Eq)]
 pub struct Number {
     pub value: u64,
-    pub c_type: NumberType,
+    pub c_type: CIntType,
 }
 
 /// The suffix of an integer constant, in small letters and with the u first.
@@ -159,31 +125,35 @@ fn read_suffix(text: &[u8]) -> Option<Suffix>
 }
 
 /// The types that a constant may have, the first choice first.
-fn types(decimal: bool, suffix: Suffix) -> &'static [NumberType]
+fn types(decimal: bool, suffix: Suffix) -> &'static [CIntType]
     ensures { result.now ≡ types_of decimal suffix }
 {
     match suffix {
-        Suffix::Plain if decimal => &[NumberType::Int, NumberType::Long],
+        Suffix::Plain if decimal => &[CIntType::Int, CIntType::Long],
         Suffix::Plain => &[
-            NumberType::Int,
-            NumberType::UnsignedInt,
-            NumberType::Long,
-            NumberType::UnsignedLong,
+            CIntType::Int,
+            CIntType::UnsignedInt,
+            CIntType::Long,
+            CIntType::UnsignedLong,
         ],
-        Suffix::U => &[NumberType::UnsignedInt, NumberType::UnsignedLong],
-        Suffix::L if decimal => &[NumberType::Long],
-        Suffix::L => &[NumberType::Long, NumberType::UnsignedLong],
-        Suffix::Ul => &[NumberType::UnsignedLong],
-        Suffix::Ll if decimal => &[NumberType::LongLong],
-        Suffix::Ll => &[NumberType::LongLong, NumberType::UnsignedLongLong],
-        Suffix::Ull => &[NumberType::UnsignedLongLong],
+        Suffix::U => &[CIntType::UnsignedInt, CIntType::UnsignedLong],
+        Suffix::L if decimal => &[CIntType::Long],
+        Suffix::L => &[CIntType::Long, CIntType::UnsignedLong],
+        Suffix::Ul => &[CIntType::UnsignedLong],
+        Suffix::Ll if decimal => &[CIntType::LongLong],
+        Suffix::Ll => &[CIntType::LongLong, CIntType::UnsignedLongLong],
+        Suffix::Ull => &[CIntType::UnsignedLongLong],
     }
 }
 
-fn first_type(value: u64, types: &[NumberType]) -> Option<NumberType>
-    ensures { result ≡ find (λ c_type. nat_lt value (limit_of c_type)) types.now }
+fn first_type(value: u64, types: &[CIntType]) -> Option<CIntType>
+    ensures { result ≡ find
+        (λ c_type. nat_lt value (limit_of (int_type_of c_type))) types.now }
 {
-    types.iter().copied().find(|c_type| c_type.holds(value))
+    types
+        .iter()
+        .copied()
+        .find(|c_type| c_type.int_type().holds(value))
 }
 
 fn number_with_type(value: u64, decimal: bool, suffix: Suffix) -> Option<Number>

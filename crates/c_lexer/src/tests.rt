@@ -6,6 +6,7 @@
 //! on its line, and the text. A fault is shown as it prints for debugging.
 
 use super::*;
+use filc_num::{CIntType, Refusal, RefusalKind};
 use std::alloc::{AllocError, Global};
 use std::test::*;
 
@@ -256,45 +257,45 @@ fn each_punctuator(rt: HostRuntime) -> Result<(), Fail> {
     Ok(())
 }
 
-fn number(value: u64, c_type: NumberType) -> Option<Number> {
+fn number(value: u64, c_type: CIntType) -> Option<Number> {
     Some(Number { value, c_type })
 }
 
 #[test]
 fn each_row_of_the_table_of_types(rt: HostRuntime) {
     let table: [(&[u8], Option<Number>); 24] = [
-        (b"2147483647", number(2147483647, NumberType::Int)),
-        (b"2147483648", number(2147483648, NumberType::Long)),
+        (b"2147483647", number(2147483647, CIntType::Int)),
+        (b"2147483648", number(2147483648, CIntType::Long)),
         (
             b"9223372036854775807",
-            number(9223372036854775807, NumberType::Long),
+            number(9223372036854775807, CIntType::Long),
         ),
         (b"9223372036854775808", None),
-        (b"0x7fffffff", number(2147483647, NumberType::Int)),
-        (b"020000000000", number(2147483648, NumberType::UnsignedInt)),
-        (b"0X100000000", number(4294967296, NumberType::Long)),
+        (b"0x7fffffff", number(2147483647, CIntType::Int)),
+        (b"020000000000", number(2147483648, CIntType::UnsignedInt)),
+        (b"0X100000000", number(4294967296, CIntType::Long)),
         (
             b"0xFFFFFFFFFFFFFFFF",
-            number(u64::MAX, NumberType::UnsignedLong),
+            number(u64::MAX, CIntType::UnsignedLong),
         ),
         (b"0x10000000000000000", None),
-        (b"1u", number(1, NumberType::UnsignedInt)),
-        (b"4294967296U", number(4294967296, NumberType::UnsignedLong)),
-        (b"1l", number(1, NumberType::Long)),
+        (b"1u", number(1, CIntType::UnsignedInt)),
+        (b"4294967296U", number(4294967296, CIntType::UnsignedLong)),
+        (b"1l", number(1, CIntType::Long)),
         (
             b"0x8000000000000000L",
-            number(1 << 63, NumberType::UnsignedLong),
+            number(1 << 63, CIntType::UnsignedLong),
         ),
-        (b"1ul", number(1, NumberType::UnsignedLong)),
-        (b"1LU", number(1, NumberType::UnsignedLong)),
-        (b"1ll", number(1, NumberType::LongLong)),
-        (b"01LL", number(1, NumberType::LongLong)),
+        (b"1ul", number(1, CIntType::UnsignedLong)),
+        (b"1LU", number(1, CIntType::UnsignedLong)),
+        (b"1ll", number(1, CIntType::LongLong)),
+        (b"01LL", number(1, CIntType::LongLong)),
         (
             b"0x8000000000000000ll",
-            number(1 << 63, NumberType::UnsignedLongLong),
+            number(1 << 63, CIntType::UnsignedLongLong),
         ),
-        (b"1uLL", number(1, NumberType::UnsignedLongLong)),
-        (b"1llu", number(1, NumberType::UnsignedLongLong)),
+        (b"1uLL", number(1, CIntType::UnsignedLongLong)),
+        (b"1llu", number(1, CIntType::UnsignedLongLong)),
         (b"1lL", None),
         (b"1lul", None),
         (b"0x", None),
@@ -333,5 +334,25 @@ fn each_escape(rt: HostRuntime) -> Result<(), Fail> {
     let text = read_text(rt.alloc(), b"\"a\\1234\\x4g\"")?;
     let bytes = text.ok_or("no text")?;
     assert_eq!(rt; bytes.as_slice(), [97, 83, 52, 4, 103].as_slice());
+    Ok(())
+}
+
+/// A fault is printed as the refusal of a file is, by the one table of texts.
+#[test]
+fn the_texts_of_faults(rt: HostRuntime) -> Result<(), Fail> {
+    let alloc = rt.alloc();
+    let table = [
+        (LexFault::Bad(3), RefusalKind::Bad),
+        (LexFault::Unclosed(3), RefusalKind::Unclosed),
+        (LexFault::Literal(3), RefusalKind::Literal),
+    ];
+    for (fault, kind) in table {
+        let refusal = Refusal { kind, line: 3 };
+        let wanted = format!(in alloc; "{refusal}")?;
+        let text = format!(in alloc; "{fault}")?;
+        assert_eq!(rt; text, wanted);
+    }
+    let text = format!(in alloc; "{}", LexFault::TooLong)?;
+    assert_eq!(rt; text.as_str(), RefusalKind::TooLong.text());
     Ok(())
 }

@@ -6,6 +6,7 @@
 
 use super::*;
 use c_lexer::{Tokens, lex};
+use filc_num::{Refusal, RefusalKind};
 use std::alloc::{AllocError, Global};
 use std::test::*;
 
@@ -678,5 +679,24 @@ fn nothing_doubled_sixty_times(rt: HostRuntime) -> Result<(), Fail> {
     file.push_str("e60 x\n#if e60 1\ny\n#endif\n")?;
     let got = answer(rt.alloc(), file.as_bytes())?;
     assert_eq!(rt; got.as_str(), " 62:x 64:y");
+    Ok(())
+}
+
+/// A fault is printed as the refusal of a file is, by the one table of texts.
+#[test]
+fn the_texts_of_faults(rt: HostRuntime) -> Result<(), Fail> {
+    let alloc = rt.alloc();
+    let table = [
+        (PreFault::Directive(3), RefusalKind::Directive),
+        (PreFault::Header(3), RefusalKind::Header),
+        (PreFault::Unbalanced(3), RefusalKind::Unbalanced),
+        (PreFault::Expanded(3), RefusalKind::Expanded),
+    ];
+    for (fault, kind) in table {
+        let refusal = Refusal { kind, line: 3 };
+        let wanted = format!(in alloc; "{refusal}")?;
+        let text = format!(in alloc; "{fault}")?;
+        assert_eq!(rt; text, wanted);
+    }
     Ok(())
 }
