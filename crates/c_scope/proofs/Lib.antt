@@ -1,4 +1,4 @@
 pub mod Names
 pub mod Stacking
-pub mod Paired
-pub mod Joined
+pub mod SameLengths
+pub mod Merges

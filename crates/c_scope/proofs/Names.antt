@@ -12,7 +12,7 @@ use Rattle.std.specs.Str.{bytes_eq}
 use Rattle.std.proofs.lemmas.Bool.{false≢true, cases_Bool}
 use Rattle.std.proofs.lemmas.Map.Text.{is_eq-slice_cmp}
 use Rattle.std.proofs.lemmas.Slice.Eq.{bytes_eq-Decides}
-use Rattle.c_scope.specs.Stacks.{Index, place_of, Changes}
+use Rattle.c_scope.specs.Stacks.{Index, newest_known, Changes}
 
 pub same_name : (a b : List ℕ) → bytes_eq a b ≡ true → a ≡ b
 same_name a b h = (bytes_eq-Decides a b).0 h
@@ -32,7 +32,7 @@ keeps : {V : Type 0} (eq : Vec ℕ Global → Vec ℕ Global → Bool) (test : V
 unfolding KeepsOthers
 keeps eq test old new h = h
 
-pub changed_by : (old new : Index) (name : List ℕ) (w : Option ℕ) → tree.UpdatesBy (λ x y. slice_cmp nat_cmp x.items y.items) (λ key. slice_cmp nat_cmp name key.items) old new (Some w) → Changes (place_of old) (place_of new) name w
+pub changed_by : (old new : Index) (name : List ℕ) (w : Option ℕ) → tree.UpdatesBy (λ x y. slice_cmp nat_cmp x.items y.items) (λ key. slice_cmp nat_cmp name key.items) old new (Some w) → Changes (newest_known old) (newest_known new) name w
 changed_by old new name w h = record {
   here = ap option_flatten h.1;
   others = λ other apart. ap option_flatten (keeps _ _ _ _ h.3 _ (λ x y. (eq_by_cmp_equiv nat_list_cmp_total).congr other x.items y.items) (keys_apart name other apart));
@@ -43,15 +43,15 @@ some_inside None i h = cc
 some_inside (Some x) i h = refl
 
 -- a name that leads to a declaration is known
-pub known : (index : Index) (name : List ℕ) (i : ℕ) → place_of index name ≡ Some i → IsSome (tree.get_by (λ key. slice_cmp nat_cmp name key.items) index)
+pub known : (index : Index) (name : List ℕ) (i : ℕ) → newest_known index name ≡ Some i → IsSome (tree.get_by (λ key. slice_cmp nat_cmp name key.items) index)
 known index name i h = some_inside (tree.get_by (λ key. slice_cmp nat_cmp name key.items) index) i h
 
 -- a tree that is unchanged
-pub same_places : (old new : Index) → tree.IsUnchanged old new → (name : List ℕ) → place_of new name ≡ place_of old name
-same_places old new h name = ap (λ (es : List (Vec ℕ Global × Option ℕ)). option_flatten (lookup (λ key. is_eq (slice_cmp nat_cmp name key.items)) es)) h
+pub same_newest : (old new : Index) → tree.IsUnchanged old new → (name : List ℕ) → newest_known new name ≡ newest_known old name
+same_newest old new h name = ap (λ (es : List (Vec ℕ Global × Option ℕ)). option_flatten (lookup (λ key. is_eq (slice_cmp nat_cmp name key.items)) es)) h
 
 -- in an empty tree no name leads anywhere
-pub nowhere : (index : Index) → index.entries ≡ [] → (name : List ℕ) → place_of index name ≡ None
+pub nowhere : (index : Index) → index.entries ≡ [] → (name : List ℕ) → newest_known index name ≡ None
 nowhere index none name = ap (λ (es : List (Vec ℕ Global × Option ℕ)). option_flatten (lookup (λ key. is_eq (slice_cmp nat_cmp name key.items)) es)) none
 
 -- what holds where a result is known to be `Ok`

@@ -10,27 +10,27 @@ use Rattle.std.proofs.Math.Nat.{sub-zero}
 use Rattle.std.proofs.Math.Seq.{take-length}
 use Rattle.c_scope.specs.declared.blocks.Declaration.{Declaration}
 use Rattle.c_scope.specs.Blocks.{declared_in, visible, innermost, outer_blocks, with_declaration, without_newest}
-use Rattle.c_scope.specs.Stacks.{named, newest_of, Remembers, StartWithin, blocks_of, IsIndexed, IsStack, Changes}
+use Rattle.c_scope.specs.Stacks.{naming_of, newest_of, Remembers, StartWithin, blocks_of, IsIndexed, IsStack, Changes}
 use Rattle.c_scope.proofs.Names.{same_name, names_differ}
 
 -- ---- a push and a pop
 
-module _ (places new : List ℕ → Option ℕ) (d : Declaration) (older : List Declaration) where
-  newest-push : (name : List ℕ) (b : Bool) → bytes_eq name d.name.items ≡ b → IsIndexed places older → Changes places new d.name.items (Some (length older)) → new name ≡ newest_of name (d ∷ older)
+module _ (known new : List ℕ → Option ℕ) (d : Declaration) (older : List Declaration) where
+  newest-push : (name : List ℕ) (b : Bool) → bytes_eq name d.name.items ≡ b → IsIndexed known older → Changes known new d.name.items (Some (length older)) → new name ≡ newest_of name (d ∷ older)
   unfolding newest_of
   newest-push name true e ok changes =
       ap new (same_name name d.name.items e) ∙ changes.here ∙ sym (ap (λ b. cond b (Some (length older)) (newest_of name older)) e)
   newest-push name false e ok changes =
       changes.others name (λ s. names_differ name d.name.items e (sym s)) ∙ ok.newest name ∙ sym (ap (λ b. cond b (Some (length older)) (newest_of name older)) e)
 
-  pub IsIndexed-push : IsIndexed places older → Changes places new d.name.items (Some (length older)) → d.hidden ≡ places d.name.items → IsIndexed new (d ∷ older)
+  pub IsIndexed-push : IsIndexed known older → Changes known new d.name.items (Some (length older)) → d.hidden ≡ known d.name.items → IsIndexed new (d ∷ older)
   unfolding Remembers
   IsIndexed-push ok changes hidden = record {
     newest = λ name. newest-push name (bytes_eq name d.name.items) refl ok changes;
     remembers = (hidden ∙ ok.newest d.name.items, ok.remembers);
   }
 
-  newest-pop : (name : List ℕ) (b : Bool) → bytes_eq name d.name.items ≡ b → IsIndexed places (d ∷ older) → Changes places new d.name.items d.hidden → new name ≡ newest_of name older
+  newest-pop : (name : List ℕ) (b : Bool) → bytes_eq name d.name.items ≡ b → IsIndexed known (d ∷ older) → Changes known new d.name.items d.hidden → new name ≡ newest_of name older
   unfolding newest_of Remembers
   newest-pop name true e ok changes =
       let same = same_name name d.name.items e in
@@ -38,7 +38,7 @@ module _ (places new : List ℕ → Option ℕ) (d : Declaration) (older : List 
   newest-pop name false e ok changes =
       changes.others name (λ s. names_differ name d.name.items e (sym s)) ∙ ok.newest name ∙ ap (λ b. cond b (Some (length older)) (newest_of name older)) e
 
-  pub IsIndexed-pop : IsIndexed places (d ∷ older) → Changes places new d.name.items d.hidden → IsIndexed new older
+  pub IsIndexed-pop : IsIndexed known (d ∷ older) → Changes known new d.name.items d.hidden → IsIndexed new older
   unfolding Remembers
   IsIndexed-pop ok changes = record {
     newest = λ name. newest-pop name (bytes_eq name d.name.items) refl ok changes;
@@ -51,7 +51,7 @@ module _ (places new : List ℕ → Option ℕ) (d : Declaration) (older : List 
 pub record IsFound (name : List ℕ) (stack : List Declaration) (index : ℕ) (d : Declaration) : Type 0 where
   pub within : index < length stack
   pub there : slice_get (reverse stack) index ≡ Some d
-  pub means : declared_in name (map named stack) ≡ Some d.what
+  pub means : declared_in name (map naming_of stack) ≡ Some d.what
 
 slice_get-before : {A : Type 0} (xs : List A) (y : A) (n : ℕ) → n < length xs → slice_get (xs ++ y ∷ []) n ≡ slice_get xs n
 slice_get-before [] y n h = absurd (omega arith)
@@ -79,7 +79,7 @@ found_in name (d ∷ older) index h = by (bytes_eq name d.name.items) refl (λ r
             within = omega arith;
             there = ap (λ (xs : List Declaration). slice_get xs index) (reverse-cons d older)
                 ∙ ap (λ n. slice_get (reverse older ++ d ∷ []) n) (sym here ∙ sym (length-reverse older)) ∙ slice_get-at (reverse older) d;
-            means = ap (λ b. cond b (Some d.what) (declared_in name (map named older))) e;
+            means = ap (λ b. cond b (Some d.what) (declared_in name (map naming_of older))) e;
           },
         )
     by false e inner =
@@ -90,29 +90,29 @@ found_in name (d ∷ older) index h = by (bytes_eq name d.name.items) refl (λ r
             within = omega (arith, found.within);
             there = ap (λ (xs : List Declaration). slice_get xs index) (reverse-cons d older)
                 ∙ slice_get-before (reverse older) d index (omega (arith, found.within, length-reverse older)) ∙ found.there;
-            means = ap (λ b. cond b (Some d.what) (declared_in name (map named older))) e ∙ found.means;
+            means = ap (λ b. cond b (Some d.what) (declared_in name (map naming_of older))) e ∙ found.means;
           },
         )
 
-pub none_in : (name : List ℕ) (stack : List Declaration) → newest_of name stack ≡ None → declared_in name (map named stack) ≡ None
+pub none_in : (name : List ℕ) (stack : List Declaration) → newest_of name stack ≡ None → declared_in name (map naming_of stack) ≡ None
 unfolding newest_of
 none_in name [] h = refl
 none_in name (d ∷ older) h = by (bytes_eq name d.name.items) refl (λ rest. none_in name older rest)
   where
-    by : (b : Bool) → bytes_eq name d.name.items ≡ b → (newest_of name older ≡ None → declared_in name (map named older) ≡ None) → declared_in name (map named (d ∷ older)) ≡ None
+    by : (b : Bool) → bytes_eq name d.name.items ≡ b → (newest_of name older ≡ None → declared_in name (map naming_of older) ≡ None) → declared_in name (map naming_of (d ∷ older)) ≡ None
     by true e inner = let clash : Some (length older) ≡ None = sym (ap (λ b. cond b (Some (length older)) (newest_of name older)) e) ∙ h in cc
     by false e inner =
-        ap (λ b. cond b (Some d.what) (declared_in name (map named older))) e
+        ap (λ b. cond b (Some d.what) (declared_in name (map naming_of older))) e
         ∙ inner (sym (ap (λ b. cond b (Some (length older)) (newest_of name older)) e) ∙ h)
 
 -- ---- blocks
 
-declared-split : (name : List ℕ) (k : ℕ) (stack : List Declaration) → option_or (declared_in name (map named (take k stack))) (declared_in name (map named (drop k stack))) ≡ declared_in name (map named stack)
+declared-split : (name : List ℕ) (k : ℕ) (stack : List Declaration) → option_or (declared_in name (map naming_of (take k stack))) (declared_in name (map naming_of (drop k stack))) ≡ declared_in name (map naming_of stack)
 declared-split name zero stack = refl
 declared-split name (suc k) [] = refl
 declared-split name (suc k) (d ∷ older) = by (bytes_eq name d.name.items) refl (declared-split name k older)
   where
-    by : (b : Bool) → bytes_eq name d.name.items ≡ b → option_or (declared_in name (map named (take k older))) (declared_in name (map named (drop k older))) ≡ declared_in name (map named older) → option_or (cond (bytes_eq name d.name.items) (Some d.what) (declared_in name (map named (take k older)))) (declared_in name (map named (drop k older))) ≡ declared_in name (map named (d ∷ older))
+    by : (b : Bool) → bytes_eq name d.name.items ≡ b → option_or (declared_in name (map naming_of (take k older))) (declared_in name (map naming_of (drop k older))) ≡ declared_in name (map naming_of older) → option_or (cond (bytes_eq name d.name.items) (Some d.what) (declared_in name (map naming_of (take k older)))) (declared_in name (map naming_of (drop k older))) ≡ declared_in name (map naming_of (d ∷ older))
     by true e inner = rw e refl
     by false e inner = rw e inner
 
@@ -121,20 +121,20 @@ or-none None = refl
 or-none (Some x) = refl
 
 -- what is visible is what the whole stack has the name stand for
-pub visible-blocks : (name : List ℕ) (starts : List ℕ) (stack : List Declaration) → visible name (blocks_of starts stack) ≡ declared_in name (map named stack)
+pub visible-blocks : (name : List ℕ) (starts : List ℕ) (stack : List Declaration) → visible name (blocks_of starts stack) ≡ declared_in name (map naming_of stack)
 unfolding blocks_of
-visible-blocks name [] stack = or-none (declared_in name (map named stack))
+visible-blocks name [] stack = or-none (declared_in name (map naming_of stack))
 visible-blocks name (start ∷ starts) stack =
-    ap (λ o. option_or (declared_in name (map named (take (length stack - start) stack))) o) (visible-blocks name starts (drop (length stack - start) stack))
+    ap (λ o. option_or (declared_in name (map naming_of (take (length stack - start) stack))) o) (visible-blocks name starts (drop (length stack - start) stack))
     ∙ declared-split name (length stack - start) stack
 
 -- a declaration of the innermost block isn't below where that block begins
-pub declared-here : (name : List ℕ) (stack : List Declaration) (start index : ℕ) → start ≤ length stack → newest_of name stack ≡ Some index → start ≤ index → declared_in name (map named (take (length stack - start) stack)) ≡ declared_in name (map named stack)
+pub declared-here : (name : List ℕ) (stack : List Declaration) (start index : ℕ) → start ≤ length stack → newest_of name stack ≡ Some index → start ≤ index → declared_in name (map naming_of (take (length stack - start) stack)) ≡ declared_in name (map naming_of stack)
 unfolding newest_of
 declared-here name [] start index s h i = cc
 declared-here name (d ∷ older) start index s h i = by (bytes_eq name d.name.items) refl (λ less rest. declared-here name older start index less rest i)
   where
-    by : (b : Bool) → bytes_eq name d.name.items ≡ b → (start ≤ length older → newest_of name older ≡ Some index → declared_in name (map named (take (length older - start) older)) ≡ declared_in name (map named older)) → declared_in name (map named (take (suc (length older) - start) (d ∷ older))) ≡ declared_in name (map named (d ∷ older))
+    by : (b : Bool) → bytes_eq name d.name.items ≡ b → (start ≤ length older → newest_of name older ≡ Some index → declared_in name (map naming_of (take (length older - start) older)) ≡ declared_in name (map naming_of older)) → declared_in name (map naming_of (take (suc (length older) - start) (d ∷ older))) ≡ declared_in name (map naming_of (d ∷ older))
     by true e inner =
         let at : Some (length older) ≡ Some index = sym (ap (λ b. cond b (Some (length older)) (newest_of name older)) e) ∙ h in
         let here : length older ≡ index = cc in
@@ -147,12 +147,12 @@ declared-here name (d ∷ older) start index s h i = by (bytes_eq name d.name.it
         let more : suc (length older) - start ≡ suc (length older - start) = omega arith in
         rw (more, e) (inner less rest)
 
-pub declared-outside : (name : List ℕ) (stack : List Declaration) (start index : ℕ) → newest_of name stack ≡ Some index → index < start → declared_in name (map named (take (length stack - start) stack)) ≡ None
+pub declared-outside : (name : List ℕ) (stack : List Declaration) (start index : ℕ) → newest_of name stack ≡ Some index → index < start → declared_in name (map naming_of (take (length stack - start) stack)) ≡ None
 unfolding newest_of
 declared-outside name [] start index h i = cc
 declared-outside name (d ∷ older) start index h i = by (bytes_eq name d.name.items) refl (suc (length older) - start) refl (λ rest. declared-outside name older start index rest i)
   where
-    by : (b : Bool) → bytes_eq name d.name.items ≡ b → (k : ℕ) → suc (length older) - start ≡ k → (newest_of name older ≡ Some index → declared_in name (map named (take (length older - start) older)) ≡ None) → declared_in name (map named (take k (d ∷ older))) ≡ None
+    by : (b : Bool) → bytes_eq name d.name.items ≡ b → (k : ℕ) → suc (length older) - start ≡ k → (newest_of name older ≡ Some index → declared_in name (map naming_of (take (length older - start) older)) ≡ None) → declared_in name (map naming_of (take k (d ∷ older))) ≡ None
     by true e k q inner =
         let at : Some (length older) ≡ Some index = sym (ap (λ b. cond b (Some (length older)) (newest_of name older)) e) ∙ h in
         let here : length older ≡ index = cc in
@@ -164,18 +164,18 @@ declared-outside name (d ∷ older) start index h i = by (bytes_eq name d.name.i
         let same : k ≡ length older - start = omega arith in
         rw (e, same) (inner rest)
 
-pub declared-none : (name : List ℕ) (stack : List Declaration) (k : ℕ) → declared_in name (map named stack) ≡ None → declared_in name (map named (take k stack)) ≡ None
+pub declared-none : (name : List ℕ) (stack : List Declaration) (k : ℕ) → declared_in name (map naming_of stack) ≡ None → declared_in name (map naming_of (take k stack)) ≡ None
 declared-none name stack zero h = refl
 declared-none name [] (suc k) h = refl
 declared-none name (d ∷ older) (suc k) h = by (bytes_eq name d.name.items) refl (λ rest. declared-none name older k rest)
   where
-    by : (b : Bool) → bytes_eq name d.name.items ≡ b → (declared_in name (map named older) ≡ None → declared_in name (map named (take k older)) ≡ None) → declared_in name (map named (take (suc k) (d ∷ older))) ≡ None
-    by true e inner = let clash : Some d.what ≡ None = sym (ap (λ b. cond b (Some d.what) (declared_in name (map named older))) e) ∙ h in cc
-    by false e inner = rw e (inner (sym (ap (λ b. cond b (Some d.what) (declared_in name (map named older))) e) ∙ h))
+    by : (b : Bool) → bytes_eq name d.name.items ≡ b → (declared_in name (map naming_of older) ≡ None → declared_in name (map naming_of (take k older)) ≡ None) → declared_in name (map naming_of (take (suc k) (d ∷ older))) ≡ None
+    by true e inner = let clash : Some d.what ≡ None = sym (ap (λ b. cond b (Some d.what) (declared_in name (map naming_of older))) e) ∙ h in cc
+    by false e inner = rw e (inner (sym (ap (λ b. cond b (Some d.what) (declared_in name (map naming_of older))) e) ∙ h))
 
 -- ---- a declaration, and the ends of a block
 
-pub blocks-push : (starts : List ℕ) (d : Declaration) (stack : List Declaration) → StartWithin (length stack) starts → blocks_of starts (d ∷ stack) ≡ with_declaration (named d) (blocks_of starts stack)
+pub blocks-push : (starts : List ℕ) (d : Declaration) (stack : List Declaration) → StartWithin (length stack) starts → blocks_of starts (d ∷ stack) ≡ with_declaration (naming_of d) (blocks_of starts stack)
 unfolding blocks_of StartWithin
 blocks-push [] d stack within = refl
 blocks-push (start ∷ starts) d stack within =
@@ -199,8 +199,8 @@ unfolding StartWithin
 within-enter count starts h = (omega arith, h)
 
 -- while the declarations from `start` on are taken away
-pub record IsForgetting (places : List ℕ → Option ℕ) (start : ℕ) (first now : List Declaration) : Type 0 where
-  pub indexed : IsIndexed places (reverse now)
+pub record IsForgetting (known : List ℕ → Option ℕ) (start : ℕ) (first now : List Declaration) : Type 0 where
+  pub indexed : IsIndexed known (reverse now)
   pub within : start ≤ length now
   pub rest : drop (length now - start) (reverse now) ≡ drop (length first - start) (reverse first)
 
@@ -214,11 +214,11 @@ reverse-push : {A : Type 0} (xs : List A) (x : A) → reverse (xs ++ x ∷ []) �
 reverse-push xs x = reverse-append xs (x ∷ [])
 
 module _ (start : ℕ) (first now : List Declaration) where
-  pub forget-starts : (places : List ℕ → Option ℕ) → IsIndexed places (reverse first) → start ≤ length first → IsForgetting places start first first
-  forget-starts places ok within = record { indexed = ok; within = within; rest = refl }
+  pub forget-starts : (known : List ℕ → Option ℕ) → IsIndexed known (reverse first) → start ≤ length first → IsForgetting known start first first
+  forget-starts known ok within = record { indexed = ok; within = within; rest = refl }
 
-  pub forget-step : (places new : List ℕ → Option ℕ) (rest : List Declaration) → IsForgetting places start first now → start < length now → IsIndexed new (reverse rest) → reverse rest ≡ drop 1 (reverse now) → IsForgetting new start first rest
-  forget-step places new rest ok more indexed dropped-one =
+  pub forget-step : (known new : List ℕ → Option ℕ) (rest : List Declaration) → IsForgetting known start first now → start < length now → IsIndexed new (reverse rest) → reverse rest ≡ drop 1 (reverse now) → IsForgetting new start first rest
+  forget-step known new rest ok more indexed dropped-one =
       let less : length rest ≡ length now - 1 = sym (length-reverse rest) ∙ ap length dropped-one ∙ length-drop 1 (reverse now) ∙ ap (λ n. n - 1) (length-reverse now) in
       record {
         indexed = indexed;
@@ -227,8 +227,8 @@ module _ (start : ℕ) (first now : List Declaration) where
             ∙ dropped (reverse now) start (omega (arith, length-reverse now)) ∙ ap (λ n. drop (n - start) (reverse now)) (length-reverse now) ∙ ok.rest;
       }
 
-  pub forget-ends : (places : List ℕ → Option ℕ) → IsForgetting places start first now → length now ≤ start → reverse now ≡ drop (length first - start) (reverse first)
-  forget-ends places ok past =
+  pub forget-ends : (known : List ℕ → Option ℕ) → IsForgetting known start first now → length now ≤ start → reverse now ≡ drop (length first - start) (reverse first)
+  forget-ends known ok past =
       let none : length now - start ≡ 0 = omega arith in
       ap (λ n. drop n (reverse now)) (sym none) ∙ ok.rest
 
@@ -241,11 +241,11 @@ module _ (old rest : List Declaration) (d : Declaration) (popped : old ≡ rest 
   pub reverse-popped : reverse old ≡ d ∷ reverse rest
   reverse-popped = ap reverse popped ∙ reverse-push rest d
 
-  pub IsIndexed-popped : (places new : List ℕ → Option ℕ) → IsIndexed places (reverse old) → Changes places new d.name.items d.hidden → IsIndexed new (reverse rest)
-  IsIndexed-popped places new ok changes = IsIndexed-pop places new d (reverse rest) (subst (λ (xs : List Declaration). IsIndexed places xs) reverse-popped ok) changes
+  pub IsIndexed-popped : (known new : List ℕ → Option ℕ) → IsIndexed known (reverse old) → Changes known new d.name.items d.hidden → IsIndexed new (reverse rest)
+  IsIndexed-popped known new ok changes = IsIndexed-pop known new d (reverse rest) (subst (λ (xs : List Declaration). IsIndexed known xs) reverse-popped ok) changes
 
-  pub newest-popped : (places : List ℕ → Option ℕ) → IsIndexed places (reverse old) → places d.name.items ≡ Some (length (reverse rest))
-  newest-popped places ok = ok.newest d.name.items ∙ ap (newest_of d.name.items) reverse-popped ∙ newest-here d (reverse rest)
+  pub newest-popped : (known : List ℕ → Option ℕ) → IsIndexed known (reverse old) → known d.name.items ≡ Some (length (reverse rest))
+  newest-popped known ok = ok.newest d.name.items ∙ ap (newest_of d.name.items) reverse-popped ∙ newest-here d (reverse rest)
 
 -- ---- a block is left
 
@@ -278,8 +278,8 @@ module _ (starts more : List ℕ) (count : ℕ) (declarations : List Declaration
   pub enter_blocks : blocks_of (reverse more) (reverse declarations) ≡ [] ∷ blocks_of (reverse starts) (reverse declarations)
   enter_blocks = ap (λ (xs : List ℕ). blocks_of xs (reverse declarations)) starts-pushed ∙ blocks-enter (reverse starts) (reverse declarations)
 
-  pub enter_within : (places : List ℕ → Option ℕ) → IsStack places (reverse declarations) (reverse starts) → IsStack places (reverse declarations) (reverse more)
-  enter_within places ok = record {
+  pub enter_within : (known : List ℕ → Option ℕ) → IsStack known (reverse declarations) (reverse starts) → IsStack known (reverse declarations) (reverse more)
+  enter_within known ok = record {
     indexed = ok.indexed;
     within = subst (λ (xs : List ℕ). StartWithin (length (reverse declarations)) xs) (sym starts-pushed) (within-enter (length (reverse declarations)) (reverse starts) ok.within);
   }
@@ -290,36 +290,36 @@ module _ (starts : List ℕ) (declarations more : List Declaration) (d : Declara
   reverse-pushed : reverse more ≡ d ∷ reverse declarations
   reverse-pushed = ap reverse pushed ∙ reverse-push declarations d
 
-  pub declare_stack : (places new : List ℕ → Option ℕ) (index : ℕ) → index ≡ length declarations → IsStack places (reverse declarations) (reverse starts) → Changes places new d.name.items (Some index) → d.hidden ≡ places d.name.items → IsStack new (reverse more) (reverse starts)
-  declare_stack places new index size ok changes hidden =
+  pub declare_stack : (known new : List ℕ → Option ℕ) (index : ℕ) → index ≡ length declarations → IsStack known (reverse declarations) (reverse starts) → Changes known new d.name.items (Some index) → d.hidden ≡ known d.name.items → IsStack new (reverse more) (reverse starts)
+  declare_stack known new index size ok changes hidden =
       let at : index ≡ length (reverse declarations) = size ∙ sym (length-reverse declarations) in
-      let here : Changes places new d.name.items (Some (length (reverse declarations))) = subst (λ n. Changes places new d.name.items (Some n)) at changes in
+      let here : Changes known new d.name.items (Some (length (reverse declarations))) = subst (λ n. Changes known new d.name.items (Some n)) at changes in
       record {
-        indexed = subst (λ (xs : List Declaration). IsIndexed new xs) (sym reverse-pushed) (IsIndexed-push places new d (reverse declarations) ok.indexed here hidden);
+        indexed = subst (λ (xs : List Declaration). IsIndexed new xs) (sym reverse-pushed) (IsIndexed-push known new d (reverse declarations) ok.indexed here hidden);
         within = subst (λ (xs : List Declaration). StartWithin (length xs) (reverse starts)) (sym reverse-pushed) (within-push (length (reverse declarations)) (reverse starts) ok.within);
       }
 
-  pub declare_blocks : (places : List ℕ → Option ℕ) → IsStack places (reverse declarations) (reverse starts) → blocks_of (reverse starts) (reverse more) ≡ with_declaration (named d) (blocks_of (reverse starts) (reverse declarations))
-  declare_blocks places ok = ap (blocks_of (reverse starts)) reverse-pushed ∙ blocks-push (reverse starts) d (reverse declarations) ok.within
+  pub declare_blocks : (known : List ℕ → Option ℕ) → IsStack known (reverse declarations) (reverse starts) → blocks_of (reverse starts) (reverse more) ≡ with_declaration (naming_of d) (blocks_of (reverse starts) (reverse declarations))
+  declare_blocks known ok = ap (blocks_of (reverse starts)) reverse-pushed ∙ blocks-push (reverse starts) d (reverse declarations) ok.within
 
 -- the same declarations, and a tree that leads to the same
-pub same_stack : (places new : List ℕ → Option ℕ) (stack other : List Declaration) (starts : List ℕ) → ((name : List ℕ) → new name ≡ places name) → other ≡ stack → IsStack places stack starts → IsStack new other starts
-same_stack places new stack other starts same e ok =
+pub same_stack : (known new : List ℕ → Option ℕ) (stack other : List Declaration) (starts : List ℕ) → ((name : List ℕ) → new name ≡ known name) → other ≡ stack → IsStack known stack starts → IsStack new other starts
+same_stack known new stack other starts same e ok =
     subst (λ (xs : List Declaration). IsStack new xs starts) (sym e) (record { indexed = record { newest = λ name. same name ∙ ok.indexed.newest name; remembers = ok.indexed.remembers }; within = ok.within })
 
 -- ---- what a look-up answers
 
-module _ (places : List ℕ → Option ℕ) (declarations : List Declaration) (starts : List ℕ) (ok : IsStack places (reverse declarations) starts) (name : List ℕ) where
+module _ (known : List ℕ → Option ℕ) (declarations : List Declaration) (starts : List ℕ) (ok : IsStack known (reverse declarations) starts) (name : List ℕ) where
   reversed-twice : reverse (reverse declarations) ≡ declarations
   reversed-twice = reverse-reverse declarations
 
-  pub found_at : (index : ℕ) → places name ≡ Some index → (d : Declaration) × IsFound name (reverse declarations) index d
+  pub found_at : (index : ℕ) → known name ≡ Some index → (d : Declaration) × IsFound name (reverse declarations) index d
   found_at index h = found_in name (reverse declarations) index (sym (ok.indexed.newest name) ∙ h)
 
-  pub index_within : (index : ℕ) → places name ≡ Some index → index < length declarations
+  pub index_within : (index : ℕ) → known name ≡ Some index → index < length declarations
   index_within index h = let found : IsFound name (reverse declarations) index (found_at index h).0 = (found_at index h).1 in omega (arith, found.within, length-reverse declarations)
 
-  pub means_at : (index : ℕ) (d : Declaration) → places name ≡ Some index → slice_get declarations index ≡ Some d → declared_in name (map named (reverse declarations)) ≡ Some d.what
+  pub means_at : (index : ℕ) (d : Declaration) → known name ≡ Some index → slice_get declarations index ≡ Some d → declared_in name (map naming_of (reverse declarations)) ≡ Some d.what
   means_at index d h at =
       let e : Declaration = (found_at index h).0 in
       let found : IsFound name (reverse declarations) index e = (found_at index h).1 in
@@ -327,10 +327,10 @@ module _ (places : List ℕ → Option ℕ) (declarations : List Declaration) (s
       let one : e ≡ d = cc in
       found.means ∙ ap (λ (x : Declaration). Some x.what) one
 
-  pub visible_at : (index : ℕ) (d : Declaration) → places name ≡ Some index → slice_get declarations index ≡ Some d → visible name (blocks_of starts (reverse declarations)) ≡ Some d.what
+  pub visible_at : (index : ℕ) (d : Declaration) → known name ≡ Some index → slice_get declarations index ≡ Some d → visible name (blocks_of starts (reverse declarations)) ≡ Some d.what
   visible_at index d h at = visible-blocks name starts (reverse declarations) ∙ means_at index d h at
 
-  pub visible_none : places name ≡ None → visible name (blocks_of starts (reverse declarations)) ≡ None
+  pub visible_none : known name ≡ None → visible name (blocks_of starts (reverse declarations)) ≡ None
   visible_none h = visible-blocks name starts (reverse declarations) ∙ none_in name (reverse declarations) (sym (ok.indexed.newest name) ∙ h)
 
 -- where the innermost block begins
@@ -338,9 +338,9 @@ abbrev pub first_start : List ℕ → ℕ
 first_start [] = 0
 first_start (start ∷ starts) = start
 
-innermost-blocks : (starts : List ℕ) (stack : List Declaration) → StartWithin (length stack) starts → innermost (blocks_of starts stack) ≡ map named (take (length stack - first_start starts) stack)
+innermost-blocks : (starts : List ℕ) (stack : List Declaration) → StartWithin (length stack) starts → innermost (blocks_of starts stack) ≡ map naming_of (take (length stack - first_start starts) stack)
 unfolding blocks_of
-innermost-blocks [] stack within = ap (map named) (sym (take_all stack))
+innermost-blocks [] stack within = ap (map naming_of) (sym (take_all stack))
   where
     take_all : (xs : List Declaration) → take (length xs - 0) xs ≡ xs
     take_all xs = rw sub-zero (take-length xs)
@@ -351,19 +351,19 @@ unfolding StartWithin
 first_within count [] h = omega arith
 first_within count (start ∷ starts) h = h.0
 
-module _ (places : List ℕ → Option ℕ) (declarations : List Declaration) (starts : List ℕ) (ok : IsStack places (reverse declarations) starts) (name : List ℕ) where
-  pub here_at : (index : ℕ) (d : Declaration) → places name ≡ Some index → slice_get declarations index ≡ Some d → first_start starts ≤ index → declared_in name (innermost (blocks_of starts (reverse declarations))) ≡ Some d.what
+module _ (known : List ℕ → Option ℕ) (declarations : List Declaration) (starts : List ℕ) (ok : IsStack known (reverse declarations) starts) (name : List ℕ) where
+  pub here_at : (index : ℕ) (d : Declaration) → known name ≡ Some index → slice_get declarations index ≡ Some d → first_start starts ≤ index → declared_in name (innermost (blocks_of starts (reverse declarations))) ≡ Some d.what
   here_at index d h at past =
       ap (declared_in name) (innermost-blocks starts (reverse declarations) ok.within)
       ∙ declared-here name (reverse declarations) (first_start starts) index (first_within (length (reverse declarations)) starts ok.within) (sym (ok.indexed.newest name) ∙ h) past
-      ∙ means_at places declarations starts ok name index d h at
+      ∙ means_at known declarations starts ok name index d h at
 
-  pub here_outside : (index : ℕ) → places name ≡ Some index → index < first_start starts → declared_in name (innermost (blocks_of starts (reverse declarations))) ≡ None
+  pub here_outside : (index : ℕ) → known name ≡ Some index → index < first_start starts → declared_in name (innermost (blocks_of starts (reverse declarations))) ≡ None
   here_outside index h before =
       ap (declared_in name) (innermost-blocks starts (reverse declarations) ok.within)
       ∙ declared-outside name (reverse declarations) (first_start starts) index (sym (ok.indexed.newest name) ∙ h) before
 
-  pub here_none : places name ≡ None → declared_in name (innermost (blocks_of starts (reverse declarations))) ≡ None
+  pub here_none : known name ≡ None → declared_in name (innermost (blocks_of starts (reverse declarations))) ≡ None
   here_none h =
       ap (declared_in name) (innermost-blocks starts (reverse declarations) ok.within)
       ∙ declared-none name (reverse declarations) (length (reverse declarations) - first_start starts) (none_in name (reverse declarations) (sym (ok.indexed.newest name) ∙ h))
@@ -394,22 +394,22 @@ taken_back [] [] within some = absurd (omega arith)
 taken_back [] (d ∷ older) within some = (omega arith, tt, refl)
 taken_back (start ∷ starts) [] within some = absurd (no_more some)
   where
-    no_more : 0 < length (map named (take (0 - start) [])) → ⊥
+    no_more : 0 < length (map naming_of (take (0 - start) [])) → ⊥
     no_more h = by (0 - start) h
       where
-        by : (k : ℕ) → 0 < length (map named (take k [])) → ⊥
+        by : (k : ℕ) → 0 < length (map naming_of (take k [])) → ⊥
         by zero g = omega arith
         by (suc k) g = omega arith
 taken_back (start ∷ starts) (d ∷ older) within some = by (suc (length older) - start) refl some
   where
-    by : (k : ℕ) → suc (length older) - start ≡ k → 0 < length (map named (take k (d ∷ older))) → (0 < suc (length older)) × ((start ≤ length older) × StartWithin start starts) × ((map named (take (length older - start) older) ∷ blocks_of starts (drop (length older - start) older)) ≡ without_newest (map named (take (suc (length older) - start) (d ∷ older)) ∷ blocks_of starts (drop (suc (length older) - start) (d ∷ older))))
+    by : (k : ℕ) → suc (length older) - start ≡ k → 0 < length (map naming_of (take k (d ∷ older))) → (0 < suc (length older)) × ((start ≤ length older) × StartWithin start starts) × ((map naming_of (take (length older - start) older) ∷ blocks_of starts (drop (length older - start) older)) ≡ without_newest (map naming_of (take (suc (length older) - start) (d ∷ older)) ∷ blocks_of starts (drop (suc (length older) - start) (d ∷ older))))
     by zero e g = absurd (omega arith)
     by (suc k) e g =
         let less : start ≤ length older = omega arith in
         let more : suc (length older) - start ≡ suc (length older - start) = omega arith in
         (omega arith, (less, within.1), rw more refl)
 
-module _ (starts : List ℕ) (declarations : List Declaration) (places : List ℕ → Option ℕ) (ok : IsStack places (reverse declarations) (reverse starts)) (some : 0 < length (innermost (blocks_of (reverse starts) (reverse declarations)))) where
+module _ (starts : List ℕ) (declarations : List Declaration) (known : List ℕ → Option ℕ) (ok : IsStack known (reverse declarations) (reverse starts)) (some : 0 < length (innermost (blocks_of (reverse starts) (reverse declarations)))) where
   pub take_back_some : 0 < length declarations
   take_back_some =
       let t = taken_back (reverse starts) (reverse declarations) ok.within some in

@@ -7,7 +7,7 @@
 use Rattle.std.specs.Prelude.{Bool, true, false, not, ◌&&◌, ◌||◌, ◌==◌, if◌then◌else◌, Option, Some, None}
 use Rattle.c_types.specs.declared.ctype.Part.{Part}
 use Rattle.c_tree.specs.declared.declared.Linkage.{Linkage}
-use Rattle.c_tree.specs.declared.declared.Linkage.TheVariants.{NoLinkage, Internal, External, Inherited}
+use Rattle.c_tree.specs.declared.declared.Linkage.TheVariants.{NoLinkage, Internal, External, Prior}
 use Rattle.c_tree.specs.declared.declared.Declared.{Declared}
 use Rattle.c_tree.specs.declared.declared.Declared.TheVariants.{Object, Function, Typedef, Constant, Tag}
 
@@ -19,7 +19,7 @@ abbrev pub same_linkage : Linkage → Linkage → Bool
 same_linkage NoLinkage NoLinkage = true
 same_linkage Internal Internal = true
 same_linkage External External = true
-same_linkage Inherited Inherited = true
+same_linkage Prior Prior = true
 same_linkage _ _ = false
 
 abbrev pub linkage_of : Declared → Linkage
@@ -33,21 +33,21 @@ abbrev pub is_linked : Linkage → Bool
 is_linked NoLinkage = false
 is_linked Internal = true
 is_linked External = true
-is_linked Inherited = true
+is_linked Prior = true
 
 abbrev pub has_linkage : Declared → Bool
 has_linkage d = is_linked (linkage_of d)
 
 -- `extern`, and a function without a storage word, follow what stood before
-abbrev pub followed : Option Declared → Linkage
-followed None = External
-followed (Some before) = linkage_of before
+abbrev pub prior_linkage : Option Declared → Linkage
+prior_linkage None = External
+prior_linkage (Some before) = linkage_of before
 
 abbrev pub settled_linkage : Option Declared → Linkage → Linkage
 settled_linkage before NoLinkage = NoLinkage
 settled_linkage before Internal = Internal
 settled_linkage before External = External
-settled_linkage before Inherited = followed before
+settled_linkage before Prior = prior_linkage before
 
 abbrev pub with_linkage : Linkage → Declared → Declared
 with_linkage own (Object o) = Object (record o { linkage = own })
@@ -61,15 +61,15 @@ is_one_thing (Function a) (Function b) = a.ty == b.ty && same_linkage a.linkage 
 is_one_thing _ _ = false
 
 -- what stood before, which is defined now where it was or the later declaration defines it
-abbrev pub joined : Declared → Declared → Declared
-joined (Object a) (Object b) = Object (record a { is_defined = a.is_defined || b.is_defined })
-joined (Function a) (Function b) = Function (record a { is_defined = a.is_defined || b.is_defined })
-joined a b = a
+abbrev pub merge : Declared → Declared → Declared
+merge (Object a) (Object b) = Object (record a { is_defined = a.is_defined || b.is_defined })
+merge (Function a) (Function b) = Function (record a { is_defined = a.is_defined || b.is_defined })
+merge a b = a
 
 -- a declaration with linkage, behind what the declarations of that name with linkage declared so far
 abbrev pub behind : Option Declared → Declared → Option Declared
 behind None what = Some what
-behind (Some before) what = if is_one_thing before what then Some (joined before what) else None
+behind (Some before) what = if is_one_thing before what then Some (merge before what) else None
 
 -- a declaration without linkage, behind what the name stands for in its block
 abbrev pub beside : Option Declared → Declared → Option Declared

@@ -8,36 +8,36 @@ use Rattle.std.specs.Str.{bytes_eq}
 use Rattle.c_tree.specs.declared.declared.Declared.{Declared}
 
 -- a declaration: a name, and what it stands for
-pub record Named : Type 0 where
+pub record Naming : Type 0 where
   pub name : List ℕ
   pub what : Declared
 
 -- what these declarations have the name stand for: the newest one of that name decides
-abbrev pub declared_in : List ℕ → List Named → Option Declared
+abbrev pub declared_in : List ℕ → List Naming → Option Declared
 declared_in name [] = None
 declared_in name (d ∷ older) = if bytes_eq name d.name then Some d.what else declared_in name older
 
 -- what the name stands for in the innermost block: the first block that declares it decides
-abbrev pub visible : List ℕ → List (List Named) → Option Declared
+abbrev pub visible : List ℕ → List (List Naming) → Option Declared
 visible name [] = None
 visible name (block ∷ outer) = option_or (declared_in name block) (visible name outer)
 
 -- the innermost block
-abbrev pub innermost : List (List Named) → List Named
+abbrev pub innermost : List (List Naming) → List Naming
 innermost [] = []
 innermost (block ∷ outer) = block
 
 -- the blocks round it
-abbrev pub outer_blocks : List (List Named) → List (List Named)
+abbrev pub outer_blocks : List (List Naming) → List (List Naming)
 outer_blocks [] = []
 outer_blocks (block ∷ outer) = outer
 
 -- with a further declaration in the innermost block
-abbrev pub with_declaration : Named → List (List Named) → List (List Named)
+abbrev pub with_declaration : Naming → List (List Naming) → List (List Naming)
 with_declaration d [] = (d ∷ []) ∷ []
 with_declaration d (block ∷ outer) = (d ∷ block) ∷ outer
 
 -- without the newest declaration of the innermost block
-abbrev pub without_newest : List (List Named) → List (List Named)
+abbrev pub without_newest : List (List Naming) → List (List Naming)
 without_newest ((d ∷ block) ∷ outer) = block ∷ outer
 without_newest blocks = blocks

@@ -2,7 +2,7 @@
 use Rattle.std.specs.Prelude.{List, [], ◌∷◌, if◌then◌else◌, ℕ}
 use Rattle.c_scope.specs.declared.space.Space.{Space}
 use Rattle.c_scope.specs.declared.space.Space.TheVariants.{Ordinary, Tag}
-use Rattle.c_scope.specs.Blocks.{Named, with_declaration, outer_blocks, visible, declared_in, innermost}
+use Rattle.c_scope.specs.Blocks.{Naming, with_declaration, outer_blocks, visible, declared_in, innermost}
 use Rattle.c_scope.specs.Again.{has_linkage, declared_as}
 use Rattle.std.specs.Prelude.{Option}
 use Rattle.c_tree.specs.declared.declared.Declared.{Declared}
@@ -10,11 +10,11 @@ use Rattle.c_tree.specs.declared.declared.Declared.{Declared}
 -- the blocks of each name space, the innermost first, and in `linked` each declaration with linkage, also
 -- of blocks that were left
 pub record Names : Type 0 where
-  pub ordinary : List (List Named)
-  pub tags : List (List Named)
-  pub linked : List (List Named)
+  pub ordinary : List (List Naming)
+  pub tags : List (List Naming)
+  pub linked : List (List Naming)
 
-abbrev pub blocks_in : Space → Names → List (List Named)
+abbrev pub blocks_in : Space → Names → List (List Naming)
 blocks_in Ordinary names = names.ordinary
 blocks_in Tag names = names.tags
 
@@ -22,16 +22,16 @@ blocks_in Tag names = names.tags
 abbrev pub no_names : Names
 no_names = record { ordinary = [] ∷ []; tags = [] ∷ []; linked = [] ∷ [] }
 
-abbrev pub entered : Names → Names
-entered names = record names { ordinary = [] ∷ names.ordinary; tags = [] ∷ names.tags }
+abbrev pub with_block : Names → Names
+with_block names = record names { ordinary = [] ∷ names.ordinary; tags = [] ∷ names.tags }
 
-abbrev pub left : Names → Names
-left names = record names { ordinary = outer_blocks names.ordinary; tags = outer_blocks names.tags }
+abbrev pub without_block : Names → Names
+without_block names = record names { ordinary = outer_blocks names.ordinary; tags = outer_blocks names.tags }
 
-abbrev pub with_linked : Named → List (List Named) → List (List Named)
+abbrev pub with_linked : Naming → List (List Naming) → List (List Naming)
 with_linked d linked = if has_linkage d.what then with_declaration d linked else linked
 
-abbrev pub with_name : Space → Named → Names → Names
+abbrev pub with_name : Space → Naming → Names → Names
 with_name Ordinary d names = record names { ordinary = with_declaration d names.ordinary; linked = with_linked d names.linked }
 with_name Tag d names = record names { tags = with_declaration d names.tags; linked = with_linked d names.linked }
 

@@ -9,17 +9,17 @@ use Rattle.std.specs.BTreeMap.{BTreeMap, get_by}
 use Rattle.std.specs.Cmp.Lexicographic.{slice_cmp}
 use Rattle.std.specs.Ordering.{nat_cmp}
 use Rattle.c_scope.specs.declared.blocks.Declaration.{Declaration}
-use Rattle.c_scope.specs.Blocks.{Named}
+use Rattle.c_scope.specs.Blocks.{Naming}
 
 abbrev pub Index : Type 0
 Index = BTreeMap (Vec ℕ Global) (Option ℕ)
 
 -- the index of the newest declaration of a name, as it is known
-abbrev pub place_of : Index → List ℕ → Option ℕ
-place_of index name = option_flatten (get_by (λ key. slice_cmp nat_cmp name key.items) index)
+abbrev pub newest_known : Index → List ℕ → Option ℕ
+newest_known index name = option_flatten (get_by (λ key. slice_cmp nat_cmp name key.items) index)
 
-abbrev pub named : Declaration → Named
-named d = record { name = d.name.items; what = d.what }
+abbrev pub naming_of : Declaration → Naming
+naming_of d = record { name = d.name.items; what = d.what }
 
 -- the index of the newest declaration of a name in a stack, whose newest stands first; the oldest has index 0
 unfoldable pub newest_of : List ℕ → List Declaration → Option ℕ
@@ -37,18 +37,18 @@ StartWithin count [] = Unit {0}
 StartWithin count (start ∷ starts) = (start ≤ count) × StartWithin start starts
 
 -- the blocks of a stack, by where they start
-unfoldable pub blocks_of : List ℕ → List Declaration → List (List Named)
-blocks_of [] stack = map named stack ∷ []
-blocks_of (start ∷ starts) stack = map named (take (length stack - start) stack) ∷ blocks_of starts (drop (length stack - start) stack)
+unfoldable pub blocks_of : List ℕ → List Declaration → List (List Naming)
+blocks_of [] stack = map naming_of stack ∷ []
+blocks_of (start ∷ starts) stack = map naming_of (take (length stack - start) stack) ∷ blocks_of starts (drop (length stack - start) stack)
 
 -- what holds of a stack and what is known of it
-pub record IsIndexed (places : List ℕ → Option ℕ) (stack : List Declaration) : Type 0 where
-  pub newest : (name : List ℕ) → places name ≡ newest_of name stack
+pub record IsIndexed (known : List ℕ → Option ℕ) (stack : List Declaration) : Type 0 where
+  pub newest : (name : List ℕ) → known name ≡ newest_of name stack
   pub remembers : Remembers stack
 
 -- and of its blocks
-pub record IsStack (places : List ℕ → Option ℕ) (stack : List Declaration) (starts : List ℕ) : Type 0 where
-  pub indexed : IsIndexed places stack
+pub record IsStack (known : List ℕ → Option ℕ) (stack : List Declaration) (starts : List ℕ) : Type 0 where
+  pub indexed : IsIndexed known stack
   pub within : StartWithin (length stack) starts
 
 -- only one name's newest declaration is another

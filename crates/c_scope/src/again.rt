@@ -1,7 +1,7 @@
 //! Which declarations of one name may stand together.
 
 ghost use Rattle.std.specs.Prelude.{◌≡◌, ◌&&◌, not};
-ghost use Rattle.c_scope.specs.Again.{same_linkage, linkage_of, has_linkage, is_linked, settled_linkage, with_linkage, is_one_thing, joined, behind, beside, may_be_linked, declared_as, same_part};
+ghost use Rattle.c_scope.specs.Again.{same_linkage, linkage_of, has_linkage, is_linked, settled_linkage, with_linkage, is_one_thing, merge, behind, beside, may_be_linked, declared_as, same_part};
 
 use c_tree::{Declared, DeclaredFunction, DeclaredObject, DeclaredTag, Linkage};
 use c_types::Part;
@@ -20,7 +20,7 @@ fn is_same_linkage(a: Linkage, b: Linkage) -> bool
         (Linkage::NoLinkage, Linkage::NoLinkage)
             | (Linkage::Internal, Linkage::Internal)
             | (Linkage::External, Linkage::External)
-            | (Linkage::Inherited, Linkage::Inherited)
+            | (Linkage::Prior, Linkage::Prior)
     )
 }
 
@@ -40,7 +40,7 @@ pub fn has_its_linkage(declared: Declared) -> bool
 {
     match linkage(declared) {
         Linkage::NoLinkage => false,
-        Linkage::Internal | Linkage::External | Linkage::Inherited => true,
+        Linkage::Internal | Linkage::External | Linkage::Prior => true,
     }
 }
 
@@ -49,8 +49,8 @@ fn linkage_behind(before: Option<Declared>, own: Linkage) -> Linkage
     ensures { result ≡ settled_linkage before own }
 {
     match (own, before) {
-        (Linkage::Inherited, None) => Linkage::External,
-        (Linkage::Inherited, Some(before)) => linkage(before),
+        (Linkage::Prior, None) => Linkage::External,
+        (Linkage::Prior, Some(before)) => linkage(before),
         _ => own,
     }
 }
@@ -69,7 +69,7 @@ fn with_its_linkage(linkage: Linkage, declared: Declared) -> Declared
 }
 
 /// Whether declarations of one type may be of one thing, by their linkages and whether each defines it.
-fn is_joinable(before: Linkage, is_defined: bool, linkage: Linkage, defines: bool) -> bool
+fn may_merge(before: Linkage, is_defined: bool, linkage: Linkage, defines: bool) -> bool
     ensures { result ≡ (same_linkage before linkage && not (is_defined && defines)) }
 {
     is_same_linkage(before, linkage) && !(is_defined && defines)
@@ -82,14 +82,14 @@ fn join(before: Declared, what: Declared) -> Option<Declared>
     match (before, what) {
         (Declared::Object(a), Declared::Object(b))
             if is_same_part(a.ty, b.ty)
-                && is_joinable(a.linkage, a.is_defined, b.linkage, b.is_defined) => {
+                && may_merge(a.linkage, a.is_defined, b.linkage, b.is_defined) => {
             Some(Declared::Object(DeclaredObject {
                 is_defined: a.is_defined || b.is_defined,
                 ..a
             }))
         }
         (Declared::Function(a), Declared::Function(b))
-            if a.ty == b.ty && is_joinable(a.linkage, a.is_defined, b.linkage, b.is_defined) => {
+            if a.ty == b.ty && may_merge(a.linkage, a.is_defined, b.linkage, b.is_defined) => {
             Some(Declared::Function(DeclaredFunction {
                 is_defined: a.is_defined || b.is_defined,
                 ..a

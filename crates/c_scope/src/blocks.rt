@@ -9,7 +9,7 @@ ghost use Rattle.std.specs.Prelude.{◌≡◌, ◌-◌, ◌<◌, ◌≤◌, IsSo
 ghost use Rattle.std.specs.BTreeMap.{get_by};
 ghost use Rattle.std.specs.Cmp.Lexicographic.{slice_cmp};
 ghost use Rattle.std.specs.Ordering.{nat_cmp};
-ghost use Rattle.c_scope.specs.Stacks.{place_of, Changes, IsIndexed};
+ghost use Rattle.c_scope.specs.Stacks.{newest_known, Changes, IsIndexed};
 
 use c_tree::Declared;
 use std::alloc::{AllocError, Global};
@@ -40,14 +40,14 @@ pub struct Blocks {
 
 impl Model for Blocks {
     ghost use Rattle.std.specs.Prelude.{List, reverse};
-    ghost use Rattle.c_scope.specs.Blocks.{Named};
-    ghost use Rattle.c_scope.specs.Stacks.{IsStack, blocks_of, place_of};
+    ghost use Rattle.c_scope.specs.Blocks.{Naming};
+    ghost use Rattle.c_scope.specs.Stacks.{IsStack, blocks_of, newest_known};
 
-    ghost Value = { List (List Named) };
+    ghost Value = { List (List Naming) };
 
     ghost view = { λ b. blocks_of (reverse b.starts.items) (reverse b.declarations.items) };
 
-    ghost invariant = { λ b. IsStack (place_of b.newest) (reverse b.declarations.items)
+    ghost invariant = { λ b. IsStack (newest_known b.newest) (reverse b.declarations.items)
         (reverse b.starts.items) };
 }
 
@@ -139,7 +139,7 @@ impl Blocks {
 
 /// The index of the newest declaration of a name.
 fn index_of(newest: &Newest, name: &[u8]) -> Option<usize>
-    ensures { result ≡ place_of newest.now name.now }
+    ensures { result ≡ newest_known newest.now name.now }
 {
     newest.get(name).copied().flatten()
 }
@@ -147,7 +147,7 @@ fn index_of(newest: &Newest, name: &[u8]) -> Option<usize>
 /// Lets a name that is known lead to another declaration.
 fn set_newest(newest: &mut Newest, name: &[u8], index: Option<usize>)
     requires { IsSome (get_by (λ key. slice_cmp nat_cmp name.now key.items) newest.old) }
-    ensures { Changes (place_of newest.old) (place_of newest.new) name.now index }
+    ensures { Changes (newest_known newest.old) (newest_known newest.new) name.now index }
 {
     if let Some(slot) = newest.get_mut(name) {
         *slot = index;
@@ -156,9 +156,9 @@ fn set_newest(newest: &mut Newest, name: &[u8], index: Option<usize>)
 
 /// Takes the newest declaration away.
 fn forget(declarations: &mut Vec<Declaration>, newest: &mut Newest)
-    requires indexed { IsIndexed (place_of newest.old) (reverse declarations.old.items) }
+    requires indexed { IsIndexed (newest_known newest.old) (reverse declarations.old.items) }
     requires some { 0 < vec_len declarations.old }
-    ensures indexed { IsIndexed (place_of newest.new) (reverse declarations.new.items) }
+    ensures indexed { IsIndexed (newest_known newest.new) (reverse declarations.new.items) }
     ensures newest { reverse declarations.new.items ≡ drop 1 (reverse declarations.old.items) }
 {
     if let Some(declaration) = declarations.pop() {
@@ -168,9 +168,9 @@ fn forget(declarations: &mut Vec<Declaration>, newest: &mut Newest)
 
 /// Takes the declarations from this index on away.
 fn forget_from(declarations: &mut Vec<Declaration>, newest: &mut Newest, start: usize)
-    requires indexed { IsIndexed (place_of newest.old) (reverse declarations.old.items) }
+    requires indexed { IsIndexed (newest_known newest.old) (reverse declarations.old.items) }
     requires within { start ≤ vec_len declarations.old }
-    ensures indexed { IsIndexed (place_of newest.new) (reverse declarations.new.items) }
+    ensures indexed { IsIndexed (newest_known newest.new) (reverse declarations.new.items) }
     ensures rest { reverse declarations.new.items
         ≡ drop (vec_len declarations.old - start) (reverse declarations.old.items) }
     ensures len { vec_len declarations.new ≡ start }

@@ -35,7 +35,7 @@ impl Scopes {
     ghost use Rattle.std.specs.Prelude.{◌≡◌, ◌<◌, length, Some, None, Ok, Err, IfOk, OnOk, OnErr, IsSomeAnd};
     ghost use Rattle.std.specs.Option.{option_copied};
     ghost use Rattle.c_scope.specs.Blocks.{visible, declared_in, innermost};
-    ghost use Rattle.c_scope.specs.Scopes.{no_names, entered, left, blocks_in, declaration_in, with_name};
+    ghost use Rattle.c_scope.specs.Scopes.{no_names, with_block, without_block, blocks_in, declaration_in, with_name};
 
     /// The file's scope, without names.
     pub fn new(alloc: Global) -> Result<Scopes, AllocError>
@@ -50,7 +50,7 @@ impl Scopes {
 
     /// Opens a block.
     pub fn enter(&mut self) -> Result<(), AllocError>
-        ensures ok { OnOk result (self.new ≡ entered self.old) }
+        ensures ok { OnOk result (self.new ≡ with_block self.old) }
         ensures err { OnErr result (self.new ≡ self.old) }
     {
         self.ordinary.enter()?;
@@ -64,7 +64,7 @@ impl Scopes {
     /// Closes the innermost block, which isn't the file's.
     pub fn leave(&mut self)
         requires { 1 < length self.old.ordinary }
-        ensures { self.new ≡ left self.old }
+        ensures { self.new ≡ without_block self.old }
     {
         self.ordinary.leave();
         self.tags.leave();

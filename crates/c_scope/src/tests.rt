@@ -102,13 +102,13 @@ fn declarations_that_stand_together_in_one_block(rt: HostRuntime) {
         (
             "int n; extern int n;",
             object(0, Linkage::External, false),
-            object(0, Linkage::Inherited, false),
+            object(0, Linkage::Prior, false),
             Ok(()),
         ),
         (
             "static int n; extern int n;",
             object(0, Linkage::Internal, false),
-            object(0, Linkage::Inherited, false),
+            object(0, Linkage::Prior, false),
             Ok(()),
         ),
         (
@@ -131,20 +131,20 @@ fn declarations_that_stand_together_in_one_block(rt: HostRuntime) {
         ),
         (
             "int n(void); int n(void){}",
-            function(2, Linkage::Inherited, false),
-            function(2, Linkage::Inherited, true),
+            function(2, Linkage::Prior, false),
+            function(2, Linkage::Prior, true),
             Ok(()),
         ),
         (
             "int n(void); static int n(void);",
-            function(2, Linkage::Inherited, false),
+            function(2, Linkage::Prior, false),
             function(2, Linkage::Internal, false),
             again,
         ),
         (
             "int n; int n(void);",
             object(0, Linkage::External, false),
-            function(2, Linkage::Inherited, false),
+            function(2, Linkage::Prior, false),
             again,
         ),
         ("struct n; struct n { .. };", tag(false), tag(true), Ok(())),
@@ -165,12 +165,12 @@ fn one_thing_has_one_type_in_all_blocks(rt: HostRuntime) -> Result<(), Fail> {
     let mut scopes = Scopes::new(rt.alloc())?;
     scopes.enter()?;
     assert_eq!(rt;
-        scopes.declare(Space::Ordinary, b"n", object(0, Linkage::Inherited, false)),
+        scopes.declare(Space::Ordinary, b"n", object(0, Linkage::Prior, false)),
         Ok(())
     );
     scopes.enter()?;
     assert_eq!(rt;
-        scopes.declare(Space::Ordinary, b"n", object(1, Linkage::Inherited, false)),
+        scopes.declare(Space::Ordinary, b"n", object(1, Linkage::Prior, false)),
         Err(DeclareFault::Again)
     );
     assert_eq!(rt;

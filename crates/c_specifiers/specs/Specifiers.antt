@@ -7,8 +7,8 @@ use Rattle.std.specs.Option.{option_or}
 use Rattle.filc_num.specs.declared.c_int_type.CIntType.TheVariants as kind
 use Rattle.c_types.specs.declared.ctype.CType.{CType}
 use Rattle.c_types.specs.declared.ctype.CType.TheVariants.{Void, Integer}
-use Rattle.c_specifiers.specs.declared.word.BasicType.{BasicType}
-use Rattle.c_specifiers.specs.declared.word.BasicType.TheVariants as word
+use Rattle.c_syntax.specs.declared.words.BasicType.{BasicType}
+use Rattle.c_syntax.specs.declared.words.BasicType.TheVariants as word
 
 -- words, and the type that they name
 pub record Row : Type 0 where
@@ -100,13 +100,13 @@ abbrev pub all_rows : List Row
 all_rows = character_rows ++ short_rows ++ int_rows ++ long_rows ++ long_long_rows
 
 -- the type of the first of these rows that has the words
-abbrev pub named_in : List Row → List BasicType → Option CType
-named_in [] words = None
-named_in (r ∷ rows) words = if same_words r.words words then Some r.ty else named_in rows words
+abbrev pub type_in_rows : List Row → List BasicType → Option CType
+type_in_rows [] words = None
+type_in_rows (r ∷ rows) words = if same_words r.words words then Some r.ty else type_in_rows rows words
 
 -- the type that the words name, by the table
-abbrev pub named_by : List BasicType → Option CType
-named_by words =
-    let characters = option_or (named_in character_rows words) (named_in short_rows words) in
-    let integers = option_or characters (named_in int_rows words) in
-    option_or (option_or integers (named_in long_rows words)) (named_in long_long_rows words)
+abbrev pub type_of_words : List BasicType → Option CType
+type_of_words words =
+    let characters = option_or (type_in_rows character_rows words) (type_in_rows short_rows words) in
+    let integers = option_or characters (type_in_rows int_rows words) in
+    option_or (option_or integers (type_in_rows long_rows words)) (type_in_rows long_long_rows words)

@@ -5,10 +5,9 @@
 
 pub mod laws;
 mod name;
-mod word;
 
+pub use c_syntax::BasicType;
 pub use name::type_named;
-pub use word::BasicType;
 
 #[cfg(test)]
 mod tests;

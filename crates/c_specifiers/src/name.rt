@@ -1,16 +1,16 @@
 //! Finding the row of a list of words.
 
 ghost use Rattle.std.specs.Prelude.{◌≡◌, ◌==◌, count_by};
-ghost use Rattle.c_specifiers.specs.Specifiers.{same_words, named_by, named_in, is_word, as_often, character_rows, short_rows, int_rows, long_rows, long_long_rows};
+ghost use Rattle.c_specifiers.specs.Specifiers.{same_words, type_of_words, type_in_rows, is_word, as_often, character_rows, short_rows, int_rows, long_rows, long_long_rows};
 
-use crate::word::BasicType;
 use BasicType::{Bool, Char, Int, Long, Short, Signed, Unsigned, Void};
+use c_syntax::BasicType;
 use c_types::CType;
 use filc_num::CIntType;
 
 /// The type that these words name in any order, or nothing where they name none.
 pub fn type_named(words: &[BasicType]) -> Option<CType>
-    ensures { result ≡ named_by words.now }
+    ensures { result ≡ type_of_words words.now }
 {
     let character = character_type(words);
     let short = short_type(words);
@@ -22,7 +22,7 @@ pub fn type_named(words: &[BasicType]) -> Option<CType>
 
 /// The row of void, `_Bool` and the characters.
 fn character_type(words: &[BasicType]) -> Option<CType>
-    ensures { result ≡ named_in character_rows words.now }
+    ensures { result ≡ type_in_rows character_rows words.now }
 {
     if have_same_words(&[Void], words) {
         return Some(CType::Void);
@@ -44,7 +44,7 @@ fn character_type(words: &[BasicType]) -> Option<CType>
 
 /// The row of the short types.
 fn short_type(words: &[BasicType]) -> Option<CType>
-    ensures { result ≡ named_in short_rows words.now }
+    ensures { result ≡ type_in_rows short_rows words.now }
 {
     if have_same_words(&[Short], words) {
         return Some(CType::Integer(CIntType::Short));
@@ -69,7 +69,7 @@ fn short_type(words: &[BasicType]) -> Option<CType>
 
 /// The row of `int` and `unsigned int`.
 fn int_type(words: &[BasicType]) -> Option<CType>
-    ensures { result ≡ named_in int_rows words.now }
+    ensures { result ≡ type_in_rows int_rows words.now }
 {
     if have_same_words(&[Int], words) {
         return Some(CType::Integer(CIntType::Int));
@@ -91,7 +91,7 @@ fn int_type(words: &[BasicType]) -> Option<CType>
 
 /// The row of the long types.
 fn long_type(words: &[BasicType]) -> Option<CType>
-    ensures { result ≡ named_in long_rows words.now }
+    ensures { result ≡ type_in_rows long_rows words.now }
 {
     if have_same_words(&[Long], words) {
         return Some(CType::Integer(CIntType::Long));
@@ -116,7 +116,7 @@ fn long_type(words: &[BasicType]) -> Option<CType>
 
 /// The row of the long long types.
 fn long_long_type(words: &[BasicType]) -> Option<CType>
-    ensures { result ≡ named_in long_long_rows words.now }
+    ensures { result ≡ type_in_rows long_long_rows words.now }
 {
     if have_same_words(&[Long, Long], words) {
         return Some(CType::Integer(CIntType::LongLong));

@@ -1,6 +1,6 @@
 use Rattle.std.proofs.Common.{refl, ap, ◌∙◌, sym}
 use Rattle.c_scope.specs.Blocks.{without_newest}
-use Rattle.c_scope.proofs.Paired.{declared_and_taken}
+use Rattle.c_scope.proofs.SameLengths.{declared_and_taken}
 use Rattle.c_scope.proofs.Names.{on_ok, on_err}
 use Rattle.c_scope.proofs.scopes.declare_linked.Goals as goal
 
