@@ -1,21 +1,24 @@
 -- One derivation after the other: the faults, and the types that are made.
-use Rattle.std.proofs.Common.{◌≡◌, ◌⊎◌, ℕ, suc, ◌+◌, ◌<◌, List, [], ◌∷◌, ◌++◌, length, get_or, drop, Option, Some, None, refl, sym, ap, ◌∙◌, subst, ⊎_elim, Bool, Ok, IsSomeAnd, add-one}
+use Rattle.std.proofs.Common.{◌≡◌, ◌⊎◌, ℕ, suc, ◌+◌, ◌<◌, List, [], ◌∷◌, ◌++◌, length, get_or, drop, Option, Some, None, refl, sym, ap, ◌∙◌, subst, ⊎_elim, Bool, Result, Ok, IsSomeAnd, add-one}
 use Rattle.std.proofs.Math.Seq.{drop-cons}
 use Rattle.c_types.specs.declared.derivation.Derivation.{Derivation}
-use Rattle.c_types.specs.declared.derivation.DeriveFault.{DeriveFault}
+use Rattle.c_types.specs.declared.rule.TypeRule.{TypeRule}
+use Rattle.c_types.specs.declared.rule.DeriveFault.{DeriveFault}
+use Rattle.c_types.specs.declared.rule.DeriveFault.TheVariants.{Broken, NoMemory}
 use Rattle.std.specs.Prelude.{slice_get}
 use Rattle.std.proofs.lemmas.Option.{slice_get_within}
 use Rattle.c_types.specs.declared.ctype.CType.{CType}
 use Rattle.c_types.specs.declared.ctype.CType.TheVariants.{Pointer, ArrayOf, Function}
+use Rattle.c_types.specs.declared.ctype.TypeFault.{TypeFault}
 use Rattle.c_types.specs.declared.ctype.Array.{Array}
 use Rattle.c_types.specs.declared.ctype.ElementCount.{ElementCount}
 use Rattle.c_types.specs.declared.qualifier_set.Qualifiers.{Qualifiers}
 use Rattle.c_types.specs.declared.ctype.Part.{Part}
-use Rattle.c_types.specs.declared.derivation.Derivation.TheVariants.{Pointer as PointerTo, Array as ArrayOfSo, Function as FunctionOf}
+use Rattle.c_types.specs.declared.derivation.Derivation.TheVariants.{Pointer as PointerTo, Array as ArrayOfSo, OpenArray, BadArray, Function as FunctionOf, BadFunction}
 use Rattle.c_types.specs.declared.entry.Entry.{Entry}
 use Rattle.c_types.specs.declared.entry.Entry.TheVariants.{OfType, NoParameters, Parameters}
 use Rattle.c_types.specs.Sizes.{Room}
-use Rattle.c_types.specs.Derivations.{Shape, shape_of, shape_after, fault_of, lower, lowest, lowest_fault}
+use Rattle.c_types.specs.Derivations.{Shape, shape_of, shape_after, rule_of, lower, lowest, lowest_rule, IsCause}
 use Rattle.c_types.specs.Declarators.{IsTypeEntry, type_of_entry, shape_of_any, shape_at, Keeps, Makes, IsDerived, IsParameterList}
 use Rattle.c_types.specs.LayoutLaws.{room_size, room_align}
 use Rattle.c_types.proofs.Orders.{array_by_parts}
@@ -29,12 +32,12 @@ pub left_with : {A : Type 0} (xs : List A) (i : ℕ) (d : A) → i < length xs �
 left_with xs i d h = drop-cons xs i d h ∙ ap (λ n. get_or xs i d ∷ drop n xs) (sym (add-one i))
 
 -- the next derivation
-pub next_fault : (s s' : Shape) (acc acc' f : Option DeriveFault) (ds : List Derivation) (i : ℕ) (d : Derivation) → i < length ds → d ≡ get_or ds i d → f ≡ fault_of s d → acc' ≡ lowest acc f → s' ≡ shape_after s d → lowest_fault s' acc' (drop (i + 1) ds) ≡ lowest_fault s acc (drop i ds)
-unfolding lowest_fault
-next_fault s s' acc acc' f ds i d h e f-is acc-is s-is =
-    ap (λ x. lowest_fault x acc' (drop (i + 1) ds)) s-is
-    ∙ ap (λ x. lowest_fault (shape_after s d) x (drop (i + 1) ds)) (acc-is ∙ ap (lowest acc) f-is)
-    ∙ sym (ap (lowest_fault s acc) (left_at ds i d h e))
+pub next_rule : (s s' : Shape) (acc acc' f : Option TypeRule) (ds : List Derivation) (i : ℕ) (d : Derivation) → i < length ds → d ≡ get_or ds i d → f ≡ rule_of s d → acc' ≡ lowest acc f → s' ≡ shape_after s d → lowest_rule s' acc' (drop (i + 1) ds) ≡ lowest_rule s acc (drop i ds)
+unfolding lowest_rule
+next_rule s s' acc acc' f ds i d h e f-is acc-is s-is =
+    ap (λ x. lowest_rule x acc' (drop (i + 1) ds)) s-is
+    ∙ ap (λ x. lowest_rule (shape_after s d) x (drop (i + 1) ds)) (acc-is ∙ ap (lowest acc) f-is)
+    ∙ sym (ap (lowest_rule s acc) (left_at ds i d h e))
 
 -- ---- a table that grows
 
@@ -52,7 +55,7 @@ same_shape (Some e) p there kept = ap (λ (x : Option Entry). shape_of_any (type
 pub shape_at-keeps : (t t' : List Entry) (n : ℕ) → Keeps t t' → IsSomeAnd (slice_get t n) IsTypeEntry → shape_at t' n ≡ shape_at t n
 shape_at-keeps t t' n k there = same_shape (slice_get t n) (slice_get t' n) there (λ e at. k n e at)
 
-with_room : (o : Option Entry) (r : Room) → (shape_of_any (type_of_entry o)).room ≡ Ok r → IsSomeAnd o IsTypeEntry
+with_room : (o : Option Entry) (r : Room) → (shape_of_any (type_of_entry o)).room ≡ Some (Ok r) → IsSomeAnd o IsTypeEntry
 with_room None r h = cc
 with_room (Some (OfType ty)) r h = tt
 with_room (Some NoParameters) r h = cc
@@ -64,6 +67,9 @@ Makes-keeps t t' of (FunctionOf ps more) made k h = (k made.number _ h.0, h.1)
 Makes-keeps t t' of (ArrayOfSo count) made k h =
     let shape = shape_at-keeps t t' of.number k (with_room (slice_get t of.number) _ h.4) in
     (h.0, (k made.number _ h.1.0, h.1.1), h.2, h.3, ap (λ (s : Shape). s.room) shape ∙ h.4)
+Makes-keeps t t' of OpenArray made k h = absurd h
+Makes-keeps t t' of BadArray made k h = absurd h
+Makes-keeps t t' of (BadFunction broken) made k h = absurd h
 
 pub IsDerived-keeps : (t t' : List Entry) (base : Part) (ds : List Derivation) (made : Part) → Keeps t t' → IsDerived t base ds made → IsDerived t' base ds made
 unfolding IsDerived
@@ -81,34 +87,45 @@ pub Makes-type : (t : List Entry) (of : Part) (d : Derivation) (made : Part) →
 Makes-type t of (PointerTo q) made h = rw h.0 tt
 Makes-type t of (FunctionOf ps more) made h = rw h.0 tt
 Makes-type t of (ArrayOfSo count) made h = rw h.1.0 tt
+Makes-type t of OpenArray made h = absurd h
+Makes-type t of BadArray made h = absurd h
+Makes-type t of (BadFunction broken) made h = absurd h
 
 pub Makes-shape : (t : List Entry) (of : Part) (d : Derivation) (made : Part) → Makes t of d made → shape_at t made.number ≡ shape_after (shape_at t of.number) d
 Makes-shape t of (PointerTo q) made h = rw h.0 refl
 Makes-shape t of (FunctionOf ps more) made h = rw h.0 refl
 Makes-shape t of (ArrayOfSo count) made h = rw (h.1.0, h.4, h.3) refl
+Makes-shape t of OpenArray made h = absurd h
+Makes-shape t of BadArray made h = absurd h
+Makes-shape t of (BadFunction broken) made h = absurd h
 
 -- ---- faults
 
 -- a fault stays one
-stays : (s : Shape) (f : DeriveFault) (ds : List Derivation) → (g : DeriveFault) × (lowest_fault s (Some f) ds ≡ Some g)
-unfolding lowest_fault
+stays : (s : Shape) (f : TypeRule) (ds : List Derivation) → (g : TypeRule) × (lowest_rule s (Some f) ds ≡ Some g)
+unfolding lowest_rule
 stays s f [] = (f, refl)
-stays s f (d ∷ ds) = by (fault_of s d) refl (λ g. stays (shape_after s d) g ds)
+stays s f (d ∷ ds) = by (rule_of s d) refl (λ g. stays (shape_after s d) g ds)
   where
-    by : (o : Option DeriveFault) → fault_of s d ≡ o → ((g : DeriveFault) → (x : DeriveFault) × (lowest_fault (shape_after s d) (Some g) ds ≡ Some x)) → (x : DeriveFault) × (lowest_fault (shape_after s d) (lowest (Some f) (fault_of s d)) ds ≡ Some x)
-    by None e more = let m = more f in (m.0, ap (λ o. lowest_fault (shape_after s d) (lowest (Some f) o) ds) e ∙ m.1)
-    by (Some g) e more = let m = more (lower f g) in (m.0, ap (λ o. lowest_fault (shape_after s d) (lowest (Some f) o) ds) e ∙ m.1)
+    by : (o : Option TypeRule) → rule_of s d ≡ o → ((g : TypeRule) → (x : TypeRule) × (lowest_rule (shape_after s d) (Some g) ds ≡ Some x)) → (x : TypeRule) × (lowest_rule (shape_after s d) (lowest (Some f) (rule_of s d)) ds ≡ Some x)
+    by None e more = let m = more f in (m.0, ap (λ o. lowest_rule (shape_after s d) (lowest (Some f) o) ds) e ∙ m.1)
+    by (Some g) e more = let m = more (lower f g) in (m.0, ap (λ o. lowest_rule (shape_after s d) (lowest (Some f) o) ds) e ∙ m.1)
 
-pub fine_next : (s : Shape) (d : Derivation) (ds : List Derivation) → lowest_fault s None (d ∷ ds) ≡ None → fault_of s d ≡ None → lowest_fault (shape_after s d) None ds ≡ None
-unfolding lowest_fault
-fine_next s d ds h f = ap (λ o. lowest_fault (shape_after s d) o ds) (sym f) ∙ h
+pub fine_next : (s : Shape) (d : Derivation) (ds : List Derivation) → lowest_rule s None (d ∷ ds) ≡ None → rule_of s d ≡ None → lowest_rule (shape_after s d) None ds ≡ None
+unfolding lowest_rule
+fine_next s d ds h f = ap (λ o. lowest_rule (shape_after s d) o ds) (sym f) ∙ h
 
-pub no_fault : (s : Shape) (d : Derivation) (ds : List Derivation) (f : DeriveFault) → lowest_fault s None (d ∷ ds) ≡ None → fault_of s d ≡ Some f → ⊥
-unfolding lowest_fault
-no_fault s d ds f h e =
+no_rule : (s : Shape) (d : Derivation) (ds : List Derivation) (f : TypeRule) → lowest_rule s None (d ∷ ds) ≡ None → rule_of s d ≡ Some f → ⊥
+unfolding lowest_rule
+no_rule s d ds f h e =
     let m = stays (shape_after s d) f ds in
-    let clash : Some m.0 ≡ None = sym m.1 ∙ ap (λ o. lowest_fault (shape_after s d) o ds) (sym e) ∙ h in
+    let clash : Some m.0 ≡ None = sym m.1 ∙ ap (λ o. lowest_rule (shape_after s d) o ds) (sym e) ∙ h in
     cc
+
+-- a derivation among those that break no rule breaks none: it fails for want of memory alone
+pub no_cause : (s : Shape) (d : Derivation) (ds : List Derivation) (f : DeriveFault) (o : Option TypeRule) → lowest_rule s None (d ∷ ds) ≡ None → IsCause (rule_of s d) f → IsCause o f
+no_cause s d ds (Broken r) o h e = absurd (no_rule s d ds r h e)
+no_cause s d ds NoMemory o h e = tt
 
 -- ---- the loop over the derivations
 
@@ -116,14 +133,14 @@ no_fault s d ds f h e =
 pub record IsDeriving (first now : List Entry) (base part : Part) (ds left : List Derivation) : Type 0 where
   pub kept : Keeps first now
   pub there : IsSomeAnd (slice_get now part.number) IsTypeEntry
-  pub fine : lowest_fault (shape_at now part.number) None left ≡ None
+  pub fine : lowest_rule (shape_at now part.number) None left ≡ None
   pub so_far : (table : List Entry) (made : Part) → Keeps now table → IsDerived table part left made → IsDerived table base ds made
 
-pub derive-starts : (first : List Entry) (base : Part) (ds : List Derivation) → IsSomeAnd (slice_get first base.number) IsTypeEntry → lowest_fault (shape_at first base.number) None ds ≡ None → IsDeriving first first base base ds ds
+pub derive-starts : (first : List Entry) (base : Part) (ds : List Derivation) → IsSomeAnd (slice_get first base.number) IsTypeEntry → lowest_rule (shape_at first base.number) None ds ≡ None → IsDeriving first first base base ds ds
 derive-starts first base ds there fine = record { kept = λ n e at. at; there = there; fine = fine; so_far = λ table made k h. h }
 
 module _ (first now new : List Entry) (base part next : Part) (ds rest : List Derivation) (d : Derivation) (ok : IsDeriving first now base part ds (d ∷ rest)) where
-  pub derive-step : Keeps now new → fault_of (shape_at now part.number) d ≡ None → Makes new part d next → IsDeriving first new base next ds rest
+  pub derive-step : Keeps now new → rule_of (shape_at now part.number) d ≡ None → Makes new part d next → IsDeriving first new base next ds rest
   unfolding IsDerived
   derive-step k f makes =
       let shape : shape_at new next.number ≡ shape_after (shape_at now part.number) d =
@@ -131,7 +148,7 @@ module _ (first now new : List Entry) (base part next : Part) (ds rest : List De
       record {
         kept = Keeps-trans first now new ok.kept k;
         there = Makes-type new part d next makes;
-        fine = ap (λ s. lowest_fault s None rest) shape ∙ fine_next (shape_at now part.number) d rest ok.fine f;
+        fine = ap (λ s. lowest_rule s None rest) shape ∙ fine_next (shape_at now part.number) d rest ok.fine f;
         so_far = λ table made l h. ok.so_far table made (Keeps-trans now new table k l) (next, Makes-keeps new table part d next l makes, h);
       }
 
@@ -152,7 +169,7 @@ module _ (t : List Entry) (of : Part) (n : ℕ) (made : CType × Qualifiers) (d 
       subst (λ (x : Derivation). Makes t of x (record { number = n; qualifiers = made.1 })) (sym d-is)
       (at ∙ ap (λ (m : CType × Qualifiers). Some (OfType m.0)) made-is, ap (λ (m : CType × Qualifiers). m.1.0) made-is ∙ plain)
 
-  pub made_array : (old : List Entry) (count : ElementCount) (a : Array) (q : Qualifiers) → d ≡ ArrayOfSo count → made ≡ (ArrayOf a, q) → q.0 ≡ 0 → a.element ≡ of → a.count ≡ count.value → Keeps old t → IsSomeAnd (slice_get old of.number) IsTypeEntry → (shape_at old of.number).room ≡ Ok (record { size = a.extent.size; align = a.extent.align }) → Makes t of d (record { number = n; qualifiers = made.1 })
+  pub made_array : (old : List Entry) (count : ElementCount) (a : Array) (q : Qualifiers) → d ≡ ArrayOfSo count → made ≡ (ArrayOf a, q) → q.0 ≡ 0 → a.element ≡ of → a.count ≡ count.value → Keeps old t → IsSomeAnd (slice_get old of.number) IsTypeEntry → (shape_at old of.number).room ≡ Some (Ok (record { size = a.extent.size; align = a.extent.align })) → Makes t of d (record { number = n; qualifiers = made.1 })
   made_array old count a q d-is made-is plain element counted k there room =
       subst (λ (x : Derivation). Makes t of x (record { number = n; qualifiers = made.1 })) (sym d-is) (
         a,
@@ -167,6 +184,14 @@ pub shape_known : (t : List Entry) (n : ℕ) (ty : CType) (s : Shape) → Some t
 shape_known t n ty s h e = ap shape_of_any (sym h) ∙ sym e
 
 -- ---- one number
+
+abbrev known_size : Option (Result Room TypeFault) → ℕ
+known_size None = 0
+known_size (Some room) = room_size room
+
+abbrev known_align : Option (Result Room TypeFault) → ℕ
+known_align None = 1
+known_align (Some room) = room_align room
 
 abbrev pub Once : List Entry → Type 0
 Once t = (e : Entry) (i j : ℕ) → slice_get t i ≡ Some e → slice_get t j ≡ Some e → i ≡ j
@@ -188,10 +213,13 @@ module _ (t : List Entry) (once : Once t) where
       let a : Array = h.0 in
       let b : Array = k.0 in
       let rooms = sym h.4 ∙ k.4 in
-      let size : a.extent.size ≡ b.extent.size = ap room_size rooms in
-      let align : a.extent.align ≡ b.extent.align = ap room_align rooms in
+      let size : a.extent.size ≡ b.extent.size = ap known_size rooms in
+      let align : a.extent.align ≡ b.extent.align = ap known_align rooms in
       let same : a ≡ b = array_by_parts a b (h.2 ∙ sym k.2) size align (h.3 ∙ sym k.3) in
       part_by_parts p q (once (OfType (ArrayOf b)) p.number q.number (h.1.0 ∙ ap (λ (x : Array). Some (OfType (ArrayOf x))) same) k.1.0) (h.1.1 ∙ sym k.1.1)
+  makes_one of OpenArray p q h k = absurd h
+  makes_one of BadArray p q h k = absurd h
+  makes_one of (BadFunction broken) p q h k = absurd h
 
   pub derived_one : (base : Part) (ds : List Derivation) (p q : Part) → IsDerived t base ds p → IsDerived t base ds q → p ≡ q
   unfolding IsDerived

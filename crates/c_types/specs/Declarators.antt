@@ -6,7 +6,7 @@ use Rattle.c_types.specs.declared.ctype.Part.{Part}
 use Rattle.c_types.specs.declared.ctype.Array.{Array}
 use Rattle.c_types.specs.declared.ctype.TypeFault.TheVariants.{Incomplete}
 use Rattle.c_types.specs.declared.derivation.Derivation.{Derivation}
-use Rattle.c_types.specs.declared.derivation.Derivation.TheVariants.{Pointer as PointerTo, Array as ArrayOfSo, Function as FunctionOf}
+use Rattle.c_types.specs.declared.derivation.Derivation.TheVariants.{Pointer as PointerTo, Array as ArrayOfSo, OpenArray, BadArray, Function as FunctionOf, BadFunction}
 use Rattle.c_types.specs.declared.entry.Entry.{Entry}
 use Rattle.c_types.specs.declared.entry.Entry.TheVariants.{OfType, NoParameters, Parameters}
 use Rattle.c_types.specs.Derivations.{Shape, shape_of}
@@ -29,7 +29,7 @@ type_in table number = type_of_entry (slice_get table number)
 -- nothing that is no type has a shape that anything may follow
 abbrev pub shape_of_any : Option CType → Shape
 shape_of_any (Some ty) = shape_of ty
-shape_of_any None = record { room = Err Incomplete; may_be_result = false }
+shape_of_any None = record { room = Some (Err Incomplete); may_be_result = false }
 
 abbrev pub shape_at : List Entry → ℕ → Shape
 shape_at table number = shape_of_any (type_in table number)
@@ -47,8 +47,11 @@ IsPlain table ty part = (slice_get table part.number ≡ Some (OfType ty)) × (p
 abbrev pub Makes : List Entry → Part → Derivation → Part → Type 0
 Makes table of (PointerTo qualifiers) made = (slice_get table made.number ≡ Some (OfType (Pointer of))) × (made.qualifiers ≡ qualifiers)
 Makes table of (ArrayOfSo count) made =
-    (a : Array) × IsPlain table (ArrayOf a) made × (a.element ≡ of) × (a.count ≡ count.value) × ((shape_at table of.number).room ≡ Ok (record { size = a.extent.size; align = a.extent.align }))
+    (a : Array) × IsPlain table (ArrayOf a) made × (a.element ≡ of) × (a.count ≡ count.value) × ((shape_at table of.number).room ≡ Some (Ok (record { size = a.extent.size; align = a.extent.align })))
+Makes table of OpenArray made = ⊥
+Makes table of BadArray made = ⊥
 Makes table of (FunctionOf parameters more) made = IsPlain table (Function (record { result = of.number; parameters = parameters; more = more })) made
+Makes table of (BadFunction broken) made = ⊥
 
 -- the last part is what the derivations make of the base, one after the other
 unfoldable pub IsDerived : List Entry → Part → List Derivation → Part → Type 0

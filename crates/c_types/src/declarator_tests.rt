@@ -22,7 +22,7 @@ fn pointer() -> Derivation {
 
 fn array(count: u64) -> Derivation {
     match count {
-        0 => pointer(),
+        0 => Derivation::BadArray,
         _ => Derivation::Array(ElementCount { value: count }),
     }
 }
@@ -66,53 +66,98 @@ fn faults_of_declarators(rt: HostRuntime) {
             "void a[2]",
             CType::Void,
             [array(2), pointer(), pointer()],
-            DeriveFault::Incomplete,
+            TypeRule::Incomplete,
         ),
         (
             "int f(void)[2]",
             int,
             [array(2), function(0), pointer()],
-            DeriveFault::BadResult,
+            TypeRule::BadFunction,
         ),
         (
             "int a[2](void)",
             int,
             [function(0), array(2), pointer()],
-            DeriveFault::Incomplete,
+            TypeRule::Incomplete,
         ),
         (
             "int a[131073]",
             int,
             [array(131_073), pointer(), pointer()],
-            DeriveFault::TooLarge,
+            TypeRule::TooLarge,
         ),
         (
-            "int a[2](void)[2], the first reason counts",
+            "int a[2](void)[2], the first rule counts",
             int,
             [array(2), function(0), array(2)],
-            DeriveFault::Incomplete,
+            TypeRule::Incomplete,
         ),
         (
             "int f(void)[131073]",
             int,
             [array(131_073), function(0), pointer()],
-            DeriveFault::TooLarge,
+            TypeRule::TooLarge,
         ),
         (
             "struct s f(void)",
             CType::Structure(0, None),
             [function(0), pointer(), pointer()],
-            DeriveFault::BadResult,
+            TypeRule::BadFunction,
         ),
         (
             "struct s a[1]",
             CType::Structure(0, None),
             [array(1), pointer(), pointer()],
-            DeriveFault::Incomplete,
+            TypeRule::Incomplete,
+        ),
+        (
+            "int a[0]",
+            int,
+            [array(0), pointer(), pointer()],
+            TypeRule::BadSize,
+        ),
+        (
+            "void a[0], the element has no size",
+            CType::Void,
+            [array(0), pointer(), pointer()],
+            TypeRule::Incomplete,
+        ),
+        (
+            "int a[131073][0], how large its elements are isn't known",
+            int,
+            [array(0), array(131_073), pointer()],
+            TypeRule::BadSize,
+        ),
+        (
+            "int f(void)[0]",
+            int,
+            [array(0), function(0), pointer()],
+            TypeRule::BadSize,
+        ),
+        (
+            "int (*f(struct s))[0]",
+            int,
+            [
+                array(0),
+                pointer(),
+                Derivation::BadFunction(TypeRule::BadFunction),
+            ],
+            TypeRule::BadSize,
+        ),
+        (
+            "struct s f(void, int), the parameter has no size",
+            CType::Structure(0, None),
+            [
+                Derivation::BadFunction(TypeRule::Incomplete),
+                pointer(),
+                pointer(),
+            ],
+            TypeRule::Incomplete,
         ),
     ];
     for (name, base, derivations, wanted) in rows {
-        assert_eq!(rt; outcome(&rt, base, &derivations), Err(wanted), "{name}");
+        let wanted = Err(DeriveFault::Broken(wanted));
+        assert_eq!(rt; outcome(&rt, base, &derivations), wanted, "{name}");
     }
     let deep = outcome(&rt, CType::Void, &[function(0), pointer()]);
     assert!(rt; matches!(deep, Ok(Some(Entry::OfType(CType::Pointer(_))))));

@@ -6,16 +6,18 @@
 ghost use Rattle.std.specs.Prelude.{◌≡◌};
 
 use crate::ctype::{Array, CType, ElementCount, Extent, Part, Signature};
-use crate::derivation::{Derivation, DeriveFault, Shape, lowest_fault_of};
+use crate::derivation::{Derivation, Shape, lowest_rule_of};
 use crate::entry::Entry;
 use crate::qualifier_set::Qualifiers;
+use crate::rule::DeriveFault;
+use crate::sizes::extent_of;
 use crate::table::Types;
 use bitflags::Flags;
 use std::alloc::AllocError;
 
 impl Types {
     ghost use Rattle.std.specs.Prelude.{◌≡◌, ◌≢◌, ℕ, Some, None, IfOk, IfErr, IsSomeAnd, OnOk, slice_get};
-    ghost use Rattle.c_types.specs.Derivations.{fault_of, lowest_fault};
+    ghost use Rattle.c_types.specs.Derivations.{rule_of, lowest_rule, IsCause};
     ghost use Rattle.c_types.specs.Declarators.{IsTypeEntry, Keeps, Makes, IsDerived, IsParameterList, IsAdjusted, shape_at, type_of_entry};
 
     /// The type of this number.
@@ -33,24 +35,26 @@ impl Types {
     pub fn derive(&mut self, of: Part, derivation: Derivation) -> Result<Part, DeriveFault>
         requires { IsSomeAnd (slice_get self.old of.number) IsTypeEntry }
         ensures made { IfOk result (λ made. Makes self.new of derivation made) }
-        ensures fine { OnOk result (fault_of (shape_at self.old of.number) derivation ≡ None) }
-        ensures fault { IfErr result (λ fault. fault ≢ DeriveFault.NoMemory
-            → fault_of (shape_at self.old of.number) derivation ≡ Some fault) }
+        ensures fine { OnOk result (rule_of (shape_at self.old of.number) derivation ≡ None) }
+        ensures fault { IfErr result (IsCause (rule_of (shape_at self.old of.number) derivation)) }
         ensures kept { Keeps self.old self.new }
     {
         let ty = self.type_at(of.number);
         let shape = Shape::of(&ty);
-        if let Some(fault) = shape.fault_of(derivation) {
-            return Err(fault);
+        if let Some(rule) = shape.rule_of(derivation) {
+            return Err(DeriveFault::Broken(rule));
         }
         let (made, qualifiers) = match derivation {
             Derivation::Pointer(qualifiers) => (CType::Pointer(of), qualifiers),
-            Derivation::Array(count) => match shape.extent {
+            Derivation::Array(count) => match extent_of(&ty) {
                 Ok(extent) => {
                     let array = array_of(of, extent, count);
                     (CType::ArrayOf(array), Qualifiers::empty())
                 }
                 Err(_) => unreachable!(),
+            },
+            Derivation::OpenArray | Derivation::BadArray | Derivation::BadFunction(_) => {
+                unreachable!()
             },
             Derivation::Function { parameters, more } => {
                 let signature = Signature {
@@ -68,7 +72,7 @@ impl Types {
     }
 
     /// The part that a declarator's derivations make of a base type, the first of them first. The fault is the
-    /// one whose reason comes first among all that the derivations break. The table may have grown also where
+    /// first of all rules that the derivations break. The table may have grown also where
     /// this is refused.
     pub fn derive_all(
         &mut self,
@@ -78,14 +82,14 @@ impl Types {
         requires { IsSomeAnd (slice_get self.old base.number) IsTypeEntry }
         ensures made { IfOk result (λ made. IsDerived self.new base derivations.now made) }
         ensures fine { OnOk result
-            (lowest_fault (shape_at self.old base.number) None derivations.now ≡ None) }
-        ensures fault { IfErr result (λ fault. fault ≢ DeriveFault.NoMemory
-            → lowest_fault (shape_at self.old base.number) None derivations.now ≡ Some fault) }
+            (lowest_rule (shape_at self.old base.number) None derivations.now ≡ None) }
+        ensures fault { IfErr result
+            (IsCause (lowest_rule (shape_at self.old base.number) None derivations.now)) }
         ensures kept { Keeps self.old self.new }
     {
         let shape = Shape::of(&self.type_at(base.number));
-        if let Some(fault) = lowest_fault_of(shape, derivations) {
-            return Err(fault);
+        if let Some(rule) = lowest_rule_of(shape, derivations) {
+            return Err(DeriveFault::Broken(rule));
         }
         let mut part = base;
         for derivation in derivations {

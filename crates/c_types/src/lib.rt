@@ -12,17 +12,19 @@ pub mod laws;
 mod layouts;
 mod members;
 mod qualifier_set;
+mod rule;
 mod sizes;
 mod table;
 
 pub use ctype::{
     Array, CType, ElementCount, Extent, MOST_OBJECT_BYTES, Part, Signature, TypeFault,
 };
-pub use derivation::{Derivation, DeriveFault, Shape};
+pub use derivation::{Derivation, Shape, lowest_of};
 pub use entry::{Entry, Tag};
 pub use layouts::{Form, Layout, LayoutFault};
 pub use members::{layout, union_layout};
 pub use qualifier_set::Qualifiers;
+pub use rule::{DeriveFault, TypeRule};
 pub use sizes::{align_of, extent_of, size_of};
 pub use table::Types;
 

@@ -1,7 +1,6 @@
 -- The entry that is numbered is the type that the derivation makes.
-use Rattle.std.proofs.Common.{Ok, sym, ap, ◌∙◌}
-use Rattle.c_types.specs.Sizes.{room_in}
-use Rattle.c_types.specs.Derivations.{Shape, shape_in}
+use Rattle.std.proofs.Common.{Some, Ok, refl, sym, ap, ◌∙◌}
+use Rattle.c_types.specs.Derivations.{Shape, shape_of, known_room_in}
 use Rattle.c_types.specs.declared.ctype.Extent.{Extent}
 use Rattle.c_types.proofs.Deriving.{Keeps-table, made_pointer, made_array, made_function, shape_known}
 use Rattle.c_types.proofs.table.Types.derive.Goals as goal
@@ -18,10 +17,10 @@ returns-in-Ok-number_of-clause-made c =
     elim c.match-derivation.branch [
       | in-Pointer w ↦ made_pointer t c.args.of n c.match-derivation.made c.args.derivation at w.in-Pointer.qualifiers w.in-Pointer.is w.made-is
       | in-Array+in-Ok w ↦
-          let extent = ap (λ (e : Extent). room_in (Ok e)) (sym w.array_of-array.ensures.extent) in
-          let shape = shape_known c.args.self.now c.args.of.number c.type_at-ty.result (shape_in c.of-shape.result) c.type_at-ty.ensures c.of-shape.ensures in
+          let extent = ap (λ (e : Extent). known_room_in (Some (Ok e))) (sym w.array_of-array.ensures.extent) in
+          let shape = shape_known c.args.self.now c.args.of.number c.type_at-ty.result (shape_of c.type_at-ty.result) c.type_at-ty.ensures refl in
           made_array t c.args.of n c.match-derivation.made c.args.derivation at c.args.self.now w.in-Array.count w.array_of-array.result w.empty.result w.in-Array.is w.made-is (w.empty.ensures tt) w.array_of-array.ensures.element w.array_of-array.ensures.count
-          (Keeps-table c.args.self.now t _ c.number_of.ensures.table) c.requires (ap (λ (s : Shape). s.room) shape ∙ ap room_in w.in-Ok.is ∙ extent)
+          (Keeps-table c.args.self.now t _ c.number_of.ensures.table) c.requires (ap (λ (s : Shape). s.room) shape ∙ ap Some (sym w.in-Ok.ensures) ∙ extent)
       | in-Function w ↦
           made_function t c.args.of n c.match-derivation.made c.args.derivation at w.in-Function.parameters w.in-Function.more w.empty-in-Function.result w.in-Function.is w.made-is (w.empty-in-Function.ensures tt)
     ]

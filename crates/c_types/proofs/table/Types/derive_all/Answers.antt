@@ -1,7 +1,7 @@
 -- A declarator whose derivations break no rule breaks none on the way.
 use Rattle.std.proofs.Common.{length, drop, ◌∷◌, ◌+◌, ◌≤◌, subst, arith}
 use Rattle.std.proofs.Math.ListN.{drop_of_length-le}
-use Rattle.c_types.proofs.Deriving.{IsDeriving, Keeps-trans, left_at, no_fault, derive-step, derive-ends}
+use Rattle.c_types.proofs.Deriving.{IsDeriving, Keeps-trans, left_at, no_cause, derive-step, derive-ends}
 use Rattle.c_types.proofs.table.Types.derive_all.Goals as goal
 use Rattle.c_types.proofs.table.Types.derive_all.Goals.{After-derive}
 
@@ -17,8 +17,8 @@ loop-derivation-preserved c =
     (before (goal.at.loop-derivation-preserved c).After-derive) c.derive.ensures.kept c.in-Ok.ensures.fine c.in-Ok.ensures.made
 
 pub returns-in-Err-clause-fault : goal.returns-in-Err-clause-fault
-returns-in-Err-clause-fault c = λ other.
-    absurd (no_fault _ c.derivation-item.result _ c.in-Err.fault (before (goal.at.returns-in-Err-clause-fault c).After-derive).fine (c.in-Err.ensures.fault other))
+returns-in-Err-clause-fault c =
+    no_cause _ c.derivation-item.result _ c.in-Err.fault _ (before (goal.at.returns-in-Err-clause-fault c).After-derive).fine c.in-Err.ensures.fault
 
 pub returns-in-Err-clause-kept : goal.returns-in-Err-clause-kept
 returns-in-Err-clause-kept c = Keeps-trans c.args.self.now c.loop-derivation.self c.derive.new.self c.loop-derivation.invariant.kept c.derive.ensures.kept
