@@ -1,0 +1,123 @@
+//! The derivations that a declarator is.
+
+ghost use Rattle.std.specs.Prelude.{◌≡◌, ◌++◌, map, reverse, IfOk, OnOk};
+ghost use Rattle.std.specs.BTreeMap.{get};
+ghost use Rattle.std.specs.Ordering.{nat_cmp};
+ghost use Rattle.c_declarators.specs.Declarators.{bit_of, with_qualifiers, qualifiers_of, array_of, function_of, kind_derivation, suffix_derivation, pointer_derivation, own_derivations, derivations_of};
+
+use crate::known::Known;
+use bitflags::Flags;
+use c_syntax::{Core, Declarator, Pointer, Qualifier, Suffix, SuffixKind};
+use c_types::{Derivation, Qualifiers, TypeRule};
+use std::alloc::{AllocError, Global};
+
+/// The set of one qualifier.
+fn set_of(qualifier: Qualifier) -> Qualifiers
+    ensures { result.0 ≡ bit_of qualifier }
+{
+    match qualifier {
+        Qualifier::Const => Qualifiers::CONST,
+        Qualifier::Volatile => Qualifiers::VOLATILE,
+        Qualifier::Restrict => Qualifiers::RESTRICT,
+        Qualifier::Atomic => Qualifiers::ATOMIC,
+    }
+}
+
+/// The derivation that a suffix is.
+fn suffix_derivation(known: &Known, suffix: &Suffix) -> Derivation
+    ensures { result ≡ suffix_derivation known.now suffix.now }
+{
+    match &suffix.kind {
+        SuffixKind::Array(None) => Derivation::OpenArray,
+        SuffixKind::Array(Some(_)) => match known.sizes.get(&suffix.span.first).copied() {
+            None => Derivation::BadArray,
+            Some(count) => Derivation::Array(count),
+        },
+        SuffixKind::Function { .. } => match known.parameters.get(&suffix.span.first).copied() {
+            None => Derivation::BadFunction(TypeRule::BadFunction),
+            Some(Ok(parameters)) => Derivation::Function {
+                parameters,
+                more: false,
+            },
+            Some(Err(broken)) => Derivation::BadFunction(broken),
+        },
+    }
+}
+
+/// The set of these qualifiers.
+fn qualifiers_of(list: &[Qualifier]) -> Qualifiers
+    ensures { result.0 ≡ with_qualifiers 0 list.now }
+{
+    let mut set = Qualifiers::empty();
+    for qualifier in list {
+        set = set.union(set_of(*qualifier));
+    }
+    set
+}
+
+/// The derivation that a pointer is.
+fn pointer_derivation(pointer: &Pointer) -> Derivation
+    ensures { result ≡ pointer_derivation pointer.now }
+{
+    Derivation::Pointer(qualifiers_of(pointer.qualifiers.as_slice()))
+}
+
+/// Appends the derivations of pointers, from left to right.
+fn append_pointers(
+    pointers: &[Pointer],
+    derivations: &mut Vec<Derivation>,
+) -> Result<(), AllocError>
+    ensures { OnOk result (derivations.new.items
+        ≡ derivations.old.items ++ map pointer_derivation pointers.now) }
+{
+    for pointer in pointers {
+        derivations.push(pointer_derivation(pointer))?;
+    }
+    Ok(())
+}
+
+/// Appends the derivations of suffixes, from right to left.
+fn append_suffixes(
+    known: &Known,
+    suffixes: &[Suffix],
+    derivations: &mut Vec<Derivation>,
+) -> Result<(), AllocError>
+    ensures { OnOk result (derivations.new.items
+        ≡ derivations.old.items ++ reverse (map (suffix_derivation known.now) suffixes.now)) }
+{
+    for index in (0..suffixes.len()).rev() {
+        derivations.push(suffix_derivation(known, &suffixes[index]))?;
+    }
+    Ok(())
+}
+
+/// Appends all derivations of a declarator. It recurses by the parentheses round the name, which nest as deep as
+/// a file may.
+fn append_all(
+    known: &Known,
+    declarator: &Declarator,
+    derivations: &mut Vec<Derivation>,
+) -> Result<(), AllocError>
+    ensures { OnOk result (derivations.new.items
+        ≡ derivations.old.items ++ derivations_of known.now declarator.now) }
+{
+    append_pointers(declarator.pointers.as_slice(), derivations)?;
+    append_suffixes(known, declarator.suffixes.as_slice(), derivations)?;
+    match &declarator.core {
+        Core::Name { .. } | Core::Nothing => Ok(()),
+        Core::Parens(inner) => append_all(known, inner.get(), derivations),
+    }
+}
+
+/// The derivations of a declarator, in the order in which they are applied to the base type.
+pub fn derivations_of(
+    alloc: Global,
+    known: &Known,
+    declarator: &Declarator,
+) -> Result<Vec<Derivation>, AllocError>
+    ensures { IfOk result (λ ds. ds.items ≡ derivations_of known.now declarator.now) }
+{
+    let mut derivations = Vec::new(alloc);
+    append_all(known, declarator, &mut derivations)?;
+    Ok(derivations)
+}
