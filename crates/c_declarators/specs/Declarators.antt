@@ -3,7 +3,7 @@
 -- A declarator is read from the base type outwards. Its pointers come first, from left to right, then its
 -- suffixes from right to left, since the one nearest to the name is applied last, and then what stands in its
 -- parentheses. So `*(*f)[3]` over int makes a pointer to int, an array of 3 of those, a pointer to such an array.
-use Rattle.std.specs.Prelude.{ℕ, false, List, [], ◌∷◌, ◌++◌, map, reverse, Option, Some, None, Result, Ok, Err, bit_or}
+use Rattle.std.specs.Prelude.{ℕ, false, List, [], ◌∷◌, ◌++◌, map, reverse, Option, Some, None, Result, Ok, Err}
 use Rattle.std.specs.BTreeMap.{get}
 use Rattle.std.specs.Ordering.{nat_cmp}
 use Rattle.c_syntax.specs.declared.expr.Declarator.{Declarator, Declarator', out-Declarator}
@@ -11,32 +11,13 @@ use Rattle.c_syntax.specs.declared.expr.Core.{Core, Name, Parens', Nothing, more
 use Rattle.c_syntax.specs.declared.expr.Pointer.{Pointer}
 use Rattle.c_syntax.specs.declared.expr.Suffix.{Suffix, out-Suffix}
 use Rattle.c_syntax.specs.declared.expr.SuffixKind.{SuffixKind, Array', Function', SuffixKind-Array-0-None' as NoSize, SuffixKind-Array-0-Some' as Size}
-use Rattle.c_syntax.specs.declared.words.Qualifier.{Qualifier}
-use Rattle.c_syntax.specs.declared.words.Qualifier.TheVariants as word
 use Rattle.c_types.specs.declared.ctype.ElementCount.{ElementCount}
-use Rattle.c_types.specs.declared.qualifier_set.Qualifiers.{Qualifiers}
 use Rattle.c_types.specs.declared.derivation.Derivation.{Derivation}
 use Rattle.c_types.specs.declared.derivation.Derivation.TheVariants as derivation
 use Rattle.c_types.specs.declared.rule.TypeRule.{TypeRule}
 use Rattle.c_types.specs.declared.rule.TypeRule.TheVariants as rule
+use Rattle.c_specifiers.specs.QualifierSets.{qualifiers_of}
 use Rattle.c_declarators.specs.declared.known.Known.{Known}
-
--- ---- qualifiers
-
--- the set of one qualifier
-abbrev pub bit_of : Qualifier → ℕ
-bit_of word.Const = 1
-bit_of word.Volatile = 2
-bit_of word.Restrict = 4
-bit_of word.Atomic = 8
-
--- a set with these qualifiers; one that stands twice counts once (C11 6.7.3p5)
-unfoldable pub with_qualifiers : ℕ → List Qualifier → ℕ
-with_qualifiers set [] = set
-with_qualifiers set (q ∷ qs) = with_qualifiers (bit_or set (bit_of q)) qs
-
-abbrev pub qualifiers_of : List Qualifier → Qualifiers
-qualifiers_of qs = record { 0 = with_qualifiers 0 qs }
 
 -- ---- suffixes
 

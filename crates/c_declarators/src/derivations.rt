@@ -3,25 +3,13 @@
 ghost use Rattle.std.specs.Prelude.{◌≡◌, ◌++◌, map, reverse, IfOk, OnOk};
 ghost use Rattle.std.specs.BTreeMap.{get};
 ghost use Rattle.std.specs.Ordering.{nat_cmp};
-ghost use Rattle.c_declarators.specs.Declarators.{bit_of, with_qualifiers, qualifiers_of, array_of, function_of, kind_derivation, suffix_derivation, pointer_derivation, own_derivations, derivations_of};
+ghost use Rattle.c_declarators.specs.Declarators.{array_of, function_of, kind_derivation, suffix_derivation, pointer_derivation, own_derivations, derivations_of};
 
 use crate::known::Known;
-use bitflags::Flags;
-use c_syntax::{Core, Declarator, Pointer, Qualifier, Suffix, SuffixKind};
-use c_types::{Derivation, Qualifiers, TypeRule};
+use c_specifiers::qualifiers_of;
+use c_syntax::{Core, Declarator, Pointer, Suffix, SuffixKind};
+use c_types::{Derivation, TypeRule};
 use std::alloc::{AllocError, Global};
-
-/// The set of one qualifier.
-fn set_of(qualifier: Qualifier) -> Qualifiers
-    ensures { result.0 ≡ bit_of qualifier }
-{
-    match qualifier {
-        Qualifier::Const => Qualifiers::CONST,
-        Qualifier::Volatile => Qualifiers::VOLATILE,
-        Qualifier::Restrict => Qualifiers::RESTRICT,
-        Qualifier::Atomic => Qualifiers::ATOMIC,
-    }
-}
 
 /// The derivation that a suffix is.
 fn suffix_derivation(known: &Known, suffix: &Suffix) -> Derivation
@@ -42,17 +30,6 @@ fn suffix_derivation(known: &Known, suffix: &Suffix) -> Derivation
             Some(Err(broken)) => Derivation::BadFunction(broken),
         },
     }
-}
-
-/// The set of these qualifiers.
-fn qualifiers_of(list: &[Qualifier]) -> Qualifiers
-    ensures { result.0 ≡ with_qualifiers 0 list.now }
-{
-    let mut set = Qualifiers::empty();
-    for qualifier in list {
-        set = set.union(set_of(*qualifier));
-    }
-    set
 }
 
 /// The derivation that a pointer is.

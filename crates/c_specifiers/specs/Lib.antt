@@ -1,1 +1,4 @@
 pub mod Specifiers
+pub mod QualifierSets
+pub mod Lists
+pub mod NamesOfTypes

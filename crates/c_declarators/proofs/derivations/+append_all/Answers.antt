@@ -1,5 +1,5 @@
 -- What stands in the parentheses comes behind a declarator's own.
-use Rattle.c_declarators.proofs.Appending.{on_ok}
+use Rattle.c_declarators.proofs.Outcomes.{on_ok}
 use Rattle.c_declarators.proofs.Views.{all_appended}
 use Rattle.c_declarators.proofs.derivations.+append_all.Goals as goal
 

@@ -2,9 +2,9 @@
 use Rattle.std.proofs.Common.{◌≤◌, ◌+◌, length, drop, sym, ap, ◌∙◌, arith}
 use Rattle.std.specs.Prelude.{bit_or}
 use Rattle.std.proofs.Math.ListN.{drop_of_length-le}
-use Rattle.c_declarators.specs.Declarators.{with_qualifiers}
-use Rattle.c_declarators.proofs.Appending.{left_with}
-use Rattle.c_declarators.proofs.derivations.qualifiers_of.Goals as goal
+use Rattle.c_specifiers.specs.QualifierSets.{with_qualifiers}
+use Rattle.c_specifiers.proofs.Walks.{left_with}
+use Rattle.c_specifiers.proofs.qualifiers.qualifiers_of.Goals as goal
 
 pub loop-qualifier-preserved : goal.loop-qualifier-preserved
 unfolding with_qualifiers
