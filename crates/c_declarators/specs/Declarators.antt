@@ -3,7 +3,7 @@
 -- A declarator is read from the base type outwards. Its pointers come first, from left to right, then its
 -- suffixes from right to left, since the one nearest to the name is applied last, and then what stands in its
 -- parentheses. So `*(*f)[3]` over int makes a pointer to int, an array of 3 of those, a pointer to such an array.
-use Rattle.std.specs.Prelude.{ℕ, false, List, [], ◌∷◌, ◌++◌, map, reverse, Option, Some, None, Result, Ok, Err}
+use Rattle.std.specs.Prelude.{ℕ, false, List, [], ◌++◌, map, reverse, Option, Some, None, Result, Ok, Err}
 use Rattle.std.specs.BTreeMap.{get}
 use Rattle.std.specs.Ordering.{nat_cmp}
 use Rattle.c_syntax.specs.declared.expr.Declarator.{Declarator, Declarator', out-Declarator}
