@@ -52,7 +52,7 @@ abbrev mutual
       ExprFits o here test × (ExprFits o here one × ExprFits o here other)
   -- the first operand of `printf` is the lock of the output
   ExprFits o here (Print' line z operands pieces) =
-      (0 < count_of operands) × OperandsFit o here operands × All (PieceFits o (count_of operands)) pieces
+      (0 < count_of operands) × (OperandsFit o here operands × All (PieceFits o (count_of operands)) pieces)
 
   pub OperandsFit : {m : _} → Outline → Context → Row_of-Expr m → Type 0
   OperandsFit o here end_of-Expr = Unit {0}

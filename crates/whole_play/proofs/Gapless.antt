@@ -17,8 +17,8 @@ use Rattle.c_tree.specs.declared.stmt.LocalKind.TheVariants.{Zero, Home, Moved}
 use Rattle.c_tree.specs.declared.stmt.Stmt.{Stmt, Run, Block', If', Loop', BreakUnless, Break, Continue, Switch', Return, Row_of-Stmt, end_of-Stmt, more_of-Stmt}
 use Rattle.c_tree.specs.declared.program.FunctionDef.{FunctionDef}
 use Rattle.c_tree.specs.Plain.{PlainProgram}
-use Rattle.c_tree.specs.Operands.{Callee, Outline, OpFits}
-use Rattle.c_tree.specs.Fits.{count_of, PieceFits, ExprFits, OperandsFit, LinksFit, Place, in_loop, behind_body, in_switch, OptionalFits, StmtFits, StmtsFit, body_place, FunctionFits, callee_of, outline_of, IsProgram}
+use Rattle.c_tree.specs.Operands.{Callee, Outline, Context, OpFits}
+use Rattle.c_tree.specs.Fits.{count_of, PieceFits, ExprFits, OperandsFit, LinksFit, in_loop, behind_body, in_switch, in_block, OptionalFits, StmtFits, StmtsFit, body_context, FunctionFits, callee_of, outline_of, IsProgram}
 use Rattle.ideal_machine.specs.declared.value.Half.{Half}
 use Rattle.ideal_machine.specs.declared.value.Half.TheVariants.{Nothing, Freed, Object as ObjectHalf, Function as FunctionHalf}
 use Rattle.ideal_machine.specs.declared.value.Value.{Value}
@@ -208,7 +208,7 @@ there_by_length (a ∷ list) (suc n) h = there_by_length list n (omega (arith, h
 
 module _
     (around : Around) (outline : Outline) (kinds : around.kinds ≡ map (λ (c : Callee). c.kind) outline.callees)
-    (calls : (f line : ℕ) (values : List Value) → IsThere outline.callees f → Kept Any (around.call f line values)) (locals : ℕ) where
+    (calls : (f line : ℕ) (values : List Value) → IsThere outline.callees f → Kept Any (around.call f line values)) (here : Context) where
   abbrev n : ℕ
   n = around.rounds
 
@@ -221,7 +221,7 @@ module _
   then_gives : {X : Type 0} (state : State) (p : Phrase X) (go : X → Value) → Kept Any p → Kept Any (bind p (λ _ x. Gives state (go x)))
   then_gives state p go h = bind_any p _ h (λ _ x. gives_kept state (go x))
 
-  apply_keeps : (o : Operation) (line : ℕ) (values : List Value) (state : State) → OpFits outline locals o (length values) → Kept Any (apply around o line values state)
+  apply_keeps : (o : Operation) (line : ℕ) (values : List Value) (state : State) → OpFits outline here o (length values) → Kept Any (apply around o line values state)
   apply_keeps (op.Number m) line values state h = gives_kept state _
   apply_keeps (op.Local local) line values state h = gives_kept state _
   apply_keeps (op.Static m) line values state h = gives_kept state _
@@ -237,11 +237,11 @@ module _
   apply_keeps (op.Not ty) line values state h =
       of_one (λ values. Kept Any (apply around (op.Not ty) line values state)) values h.0 (λ a. then_gives state _ (λ v. v) (phrase.operator n n Rel rel _ ty a (integer 0) line))
   apply_keeps (op.Advance bytes) line values state h =
-      of_two (λ values. Kept Any (apply around (op.Advance bytes) line values state)) values h (λ p i. gives_kept _ _)
+      of_two (λ values. Kept Any (apply around (op.Advance bytes) line values state)) values h.0 (λ p i. gives_kept _ _)
   apply_keeps (op.Retreat bytes) line values state h =
-      of_two (λ values. Kept Any (apply around (op.Retreat bytes) line values state)) values h (λ p i. gives_kept _ _)
+      of_two (λ values. Kept Any (apply around (op.Retreat bytes) line values state)) values h.0 (λ p i. gives_kept _ _)
   apply_keeps (op.AdvanceBy bytes) line values state h =
-      of_two (λ values. Kept Any (apply around (op.AdvanceBy bytes) line values state)) values h (λ i p. gives_kept _ _)
+      of_two (λ values. Kept Any (apply around (op.AdvanceBy bytes) line values state)) values h.0 (λ i p. gives_kept _ _)
   apply_keeps (op.Offset bytes) line values state h =
       of_one (λ values. Kept Any (apply around (op.Offset bytes) line values state)) values h (λ p. gives_kept _ _)
   apply_keeps op.ToPointer line values state h =
@@ -273,9 +273,9 @@ module _
   apply_keeps (op.Copy unit m) line values state h =
       of_two (λ values. Kept Any (apply around (op.Copy unit m) line values state)) values h (λ p q. then_gives state _ (λ _. p) (copy_related n n Rel rel around.base unit m p q line))
   apply_keeps (op.Swap access) line values state h =
-      of_two (λ values. Kept Any (apply around (op.Swap access) line values state)) values h (λ p v. then_gives state _ (λ v. v) (swap_related n n Rel rel around.base access p v line))
+      of_two (λ values. Kept Any (apply around (op.Swap access) line values state)) values h.0 (λ p v. then_gives state _ (λ v. v) (swap_related n n Rel rel around.base access p v line))
   apply_keeps (op.Cas access) line values state h =
-      of_three (λ values. Kept Any (apply around (op.Cas access) line values state)) values h (λ p e v. then_gives state _ (λ v. v) (compare_related n n Rel rel around.base access p e v line))
+      of_three (λ values. Kept Any (apply around (op.Cas access) line values state)) values h.0 (λ p e v. then_gives state _ (λ v. v) (compare_related n n Rel rel around.base access p e v line))
   apply_keeps (op.Fetch ty o computed) line values state h =
       of_two (λ values. Kept Any (apply around (op.Fetch ty o computed) line values state)) values h.0 (λ p v. then_gives state _ (λ v. v) (phrase.update n n Rel rel around.base ty p _ v line))
   apply_keeps (op.Combine ty o computed) line values state h =
@@ -338,10 +338,10 @@ module _
   -- ---- expressions
 
   mutual
-    expr_keeps : (e : Expr) (state : State) → ExprFits outline locals e → Kept Any (play_expr around e state)
+    expr_keeps : (e : Expr) (state : State) → ExprFits outline here e → Kept Any (play_expr around e state)
     expr_keeps (Apply' line o z operands) state h =
         bind_kept (λ values. length values ≡ count_of operands) Any _ _ (operands_keep operands state h.1) (λ st values count.
-        apply_keeps o (line_in around line) values st (subst (OpFits outline locals o) (sym count) h.0))
+        apply_keeps o (line_in around line) values st (subst (OpFits outline here o) (sym count) h.0))
     expr_keeps (Chain' line s (more_of-Expr first end_of-Expr) z links) state h =
         bind_any _ _ (expr_keeps first state h.0) (λ st v. links_keep line links v st h.1)
     expr_keeps (Logic' line all z operands) state h = logic_keeps all operands state h.1
@@ -352,7 +352,7 @@ module _
         then_gives st _ (λ v. v) (print_keeps pieces (line_in around line) (count_of operands) values (omega (arith, count, h.0)) h.1.1))
 
     operands_keep :
-        {m : _} (operands : Row_of-Expr m) (state : State) → OperandsFit outline locals operands →
+        {m : _} (operands : Row_of-Expr m) (state : State) → OperandsFit outline here operands →
         Kept (λ values. length values ≡ count_of operands) (play_operands around operands state)
     operands_keep end_of-Expr state h = record { keeps = refl }
     operands_keep (more_of-Expr e rest) state h =
@@ -360,14 +360,14 @@ module _
         bind_kept (λ values. length values ≡ count_of rest) (λ values. length values ≡ suc (count_of rest)) _ _ (operands_keep rest st h.1)
         (λ st values count. record { keeps = ap suc count }))
 
-    links_keep : {m : _} (line : ℕ) (links : Row_of-Link m) (v : Value) (state : State) → LinksFit outline locals links → Kept Any (play_links around line links v state)
+    links_keep : {m : _} (line : ℕ) (links : Row_of-Link m) (v : Value) (state : State) → LinksFit outline here links → Kept Any (play_links around line links v state)
     links_keep line end_of-Link v state h = gives_kept state v
     links_keep line (more_of-Link o z operands links) v state h =
         bind_kept (λ values. length values ≡ count_of operands) Any _ _ (operands_keep operands state h.1.0) (λ st values count.
-        bind_any _ _ (apply_keeps o (line_in around line) (v ∷ values) st (subst (OpFits outline locals o) (sym (ap suc count)) h.0)) (λ st v.
+        bind_any _ _ (apply_keeps o (line_in around line) (v ∷ values) st (subst (OpFits outline here o) (sym (ap suc count)) h.0)) (λ st v.
         links_keep line links v st h.1.1))
 
-    logic_keeps : {m : _} (all : Bool) (operands : Row_of-Expr m) (state : State) → OperandsFit outline locals operands → Kept Any (play_logic around all operands state)
+    logic_keeps : {m : _} (all : Bool) (operands : Row_of-Expr m) (state : State) → OperandsFit outline here operands → Kept Any (play_logic around all operands state)
     logic_keeps true end_of-Expr state h = gives_kept state _
     logic_keeps false end_of-Expr state h = gives_kept state _
     logic_keeps true (more_of-Expr e rest) state h =
@@ -423,38 +423,38 @@ module _
   enter_keeps (d ∷ locals) state =
       bind_any _ _ (first_keeps d.kind (line_in around d.line) (value_at state d.local)) (λ _ v. enter_keeps locals (put_at state d.local v))
 
-  value_keeps : (locals : ℕ) (e : Expr) (state : State) → ExprFits outline locals e → Kept Any (play_expr around e state)
-  value_keeps locals e state h = expr_keeps around outline kinds calls locals e state h
+  value_keeps : (here : Context) (e : Expr) (state : State) → ExprFits outline here e → Kept Any (play_expr around e state)
+  value_keeps here e state h = expr_keeps around outline kinds calls here e state h
 
-  return_keeps : (locals : ℕ) (value : Option Expr) (state : State) → OptionalFits outline locals value → Kept Any (play_return around value state)
-  return_keeps locals None state h = gives_kept state _
-  return_keeps locals (Some value) state h = bind_any _ _ (value_keeps locals value state h) (λ st v. gives_kept st _)
+  return_keeps : (here : Context) (value : Option Expr) (state : State) → OptionalFits outline here value → Kept Any (play_return around value state)
+  return_keeps here None state h = gives_kept state _
+  return_keeps here (Some value) state h = bind_any _ _ (value_keeps here value state h) (λ st v. gives_kept st _)
 
   mutual
-    stmt_keeps : (p : Place) (s : Stmt) (state : State) → StmtFits outline p s → Kept Any (play_stmt around s state)
-    stmt_keeps p (Run value) state h = bind_any _ _ (value_keeps p.locals value state h) (λ st v. gives_kept st _)
-    stmt_keeps p (Block' locals z body) state h = bind_any _ _ (enter_keeps locals state) (λ st _. stmts_keep p body 0 st h.1)
-    stmt_keeps p (If' line test s (more_of-Stmt one end_of-Stmt) s1 (more_of-Stmt other end_of-Stmt)) state h =
-        bind_any _ _ (value_keeps p.locals test state h.0) (λ st v. zero_keeps v.number _ _ (stmt_keeps p other st h.1.1) (stmt_keeps p one st h.1.0))
-    stmt_keeps p (Loop' line s (more_of-Stmt body end_of-Stmt) s1 (more_of-Stmt next end_of-Stmt)) state h =
-        loop_keeps bound _ _ (λ st. stmt_keeps (in_loop p) body st h.0) (λ st. stmt_keeps (behind_body p) next st h.1) state
-    stmt_keeps p (BreakUnless line test) state h =
-        bind_any _ _ (value_keeps p.locals test state h.1) (λ st v. zero_keeps v.number _ _ (gives_kept st Broke) (gives_kept st Normal))
-    stmt_keeps p (Break line) state h = gives_kept state _
-    stmt_keeps p (Continue line) state h = gives_kept state _
-    stmt_keeps p (Switch' line value cases other z body) state h =
-        bind_any _ _ (value_keeps p.locals value state h.0) (λ st v.
-        bind_any _ _ (stmts_keep (in_switch p) body (statement_for cases other v.number) st h.1.1.1) (λ st f. switch_keeps st f))
-    stmt_keeps p (Return line value) state h = return_keeps p.locals value state h
+    stmt_keeps : (here : Context) (s : Stmt) (state : State) → StmtFits outline here s → Kept Any (play_stmt around s state)
+    stmt_keeps here (Run value) state h = bind_any _ _ (value_keeps here value state h) (λ st v. gives_kept st _)
+    stmt_keeps here (Block' locals z body) state h = bind_any _ _ (enter_keeps locals state) (λ st _. stmts_keep (in_block here locals) body 0 st h.1)
+    stmt_keeps here (If' line test s (more_of-Stmt one end_of-Stmt) s1 (more_of-Stmt other end_of-Stmt)) state h =
+        bind_any _ _ (value_keeps here test state h.0) (λ st v. zero_keeps v.number _ _ (stmt_keeps here other st h.1.1) (stmt_keeps here one st h.1.0))
+    stmt_keeps here (Loop' line s (more_of-Stmt body end_of-Stmt) s1 (more_of-Stmt next end_of-Stmt)) state h =
+        loop_keeps bound _ _ (λ st. stmt_keeps (in_loop here) body st h.0) (λ st. stmt_keeps (behind_body here) next st h.1) state
+    stmt_keeps here (BreakUnless line test) state h =
+        bind_any _ _ (value_keeps here test state h.1) (λ st v. zero_keeps v.number _ _ (gives_kept st Broke) (gives_kept st Normal))
+    stmt_keeps here (Break line) state h = gives_kept state _
+    stmt_keeps here (Continue line) state h = gives_kept state _
+    stmt_keeps here (Switch' line value cases other z body) state h =
+        bind_any _ _ (value_keeps here value state h.0) (λ st v.
+        bind_any _ _ (stmts_keep (in_switch here) body (statement_for cases other v.number) st h.1.1.1) (λ st f. switch_keeps st f))
+    stmt_keeps here (Return line value) state h = return_keeps here value state h
 
-    stmts_keep : {m : _} (p : Place) (body : Row_of-Stmt m) (skipped : ℕ) (state : State) → StmtsFit outline p body → Kept Any (play_stmts around body skipped state)
-    stmts_keep p end_of-Stmt skipped state h = gives_kept state _
-    stmts_keep p (more_of-Stmt s rest) (suc skipped) state h = stmts_keep p rest skipped state h.1
-    stmts_keep p (more_of-Stmt s rest) zero state h =
-        bind_any _ _ (stmt_keeps p s state h.0) (λ st f. normal_keeps (λ st. play_stmts around rest 0 st) (λ st. stmts_keep p rest 0 st h.1) st f)
+    stmts_keep : {m : _} (here : Context) (body : Row_of-Stmt m) (skipped : ℕ) (state : State) → StmtsFit outline here body → Kept Any (play_stmts around body skipped state)
+    stmts_keep here end_of-Stmt skipped state h = gives_kept state _
+    stmts_keep here (more_of-Stmt s rest) (suc skipped) state h = stmts_keep here rest skipped state h.1
+    stmts_keep here (more_of-Stmt s rest) zero state h =
+        bind_any _ _ (stmt_keeps here s state h.0) (λ st f. normal_keeps (λ st. play_stmts around rest 0 st) (λ st. stmts_keep here rest 0 st h.1) st f)
 
   function_keeps : (f : FunctionDef) (arguments : List Value) → FunctionFits outline f → Kept Any (play_function around f arguments)
-  function_keeps f arguments h = bind_any _ _ (stmt_keeps (body_place f) f.body (first_state f arguments) h.body) (λ _ flow. gives_kept tt _)
+  function_keeps f arguments h = bind_any _ _ (stmt_keeps (body_context f) f.body (first_state f arguments) h.body) (λ _ flow. gives_kept tt _)
 
 -- ---- calls and threads
 
