@@ -13,7 +13,7 @@ use Rattle.ideal_machine.specs.Values.{State, integer, value_at, put_at}
 use Rattle.ideal_machine.specs.Play.{Play, Gives, bind, Log, Goes, run}
 use Rattle.ideal_machine.specs.Phrases.{arithmetic}
 use Rattle.ideal_machine.proofs.Values.{value_at-put_same, value_at-put_other}
-use Rattle.tree_play.specs.TreePlay.{TextPlay, in_state, play_expr, play_links}
+use Rattle.form_play.specs.FormPlay.{TextPlay, in_state, play_expr, play_links}
 use Rattle.code_gen.specs.Code.{at_line, expr_code, links_code}
 use Rattle.code_gen.proofs.Numbers.{operator_back, type_back}
 use Rattle.code_gen.proofs.Between.{Between, front, back}

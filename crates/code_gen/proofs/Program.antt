@@ -22,8 +22,8 @@ use Rattle.ideal_machine.specs.Reaches.{IsLater, Reaches}
 use Rattle.ideal_machine.proofs.Runs.{then_do, run_bind, later_self}
 use Rattle.ideal_machine.proofs.Cuts.{cut_reaches, HasJumps, far_after}
 use Rattle.ideal_machine.proofs.Values.{value_at-put_same}
-use Rattle.tree_play.specs.TreePlay.{Around, Flow, Normal, Broke, Continued, Returned, play_stmt, result_of, play_function, play_called, around_of, play_thread, play}
-use Rattle.tree_play.proofs.Far.{thread_far}
+use Rattle.form_play.specs.FormPlay.{Around, Flow, Normal, Broke, Continued, Returned, play_stmt, result_of, play_function, play_called, around_of, play_thread, play}
+use Rattle.form_play.proofs.Far.{thread_far}
 use Rattle.code_thread.specs.Exec.{first_registers, exec, exec_called, exec_thread, code_events}
 use Rattle.code_thread.proofs.Cuts.{thread_cut}
 use Rattle.code_gen.specs.Code.{at_line, stmt_code, body_code, function_code, program_code}

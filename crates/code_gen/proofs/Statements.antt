@@ -10,7 +10,7 @@ use Rattle.ideal_machine.specs.declared.value.Value.{Value}
 use Rattle.ideal_machine.specs.Values.{State, zero_value, value_at, put_at}
 use Rattle.ideal_machine.specs.Play.{Gives, Jump as JumpMark, bind, Log, with_jump, Goes, run}
 use Rattle.ideal_machine.specs.Phrases.{put_out, if_zero}
-use Rattle.tree_play.specs.TreePlay.{Around, Flow, Normal, Broke, Continued, Returned, TextPlay, play_expr, on_normal, after_body, loop, with_zeros, play_stmt, play_stmts}
+use Rattle.form_play.specs.FormPlay.{Around, Flow, Normal, Broke, Continued, Returned, TextPlay, play_expr, on_normal, after_body, loop, with_zeros, play_stmt, play_stmts}
 use Rattle.code_gen.specs.Code.{at_line, expr_code, zeros_code, while_code, stmt_code, stmts_code}
 use Rattle.code_gen.proofs.Between.{Between, front, back}
 use Rattle.code_gen.proofs.Registers.{Agree, agree_both, matches_none}

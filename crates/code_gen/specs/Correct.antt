@@ -13,7 +13,7 @@ use Rattle.ideal_machine.specs.declared.event.Answer.{Answer}
 use Rattle.ideal_machine.specs.Play.{log_of}
 use Rattle.ideal_machine.specs.Phrases.{Start}
 use Rattle.ideal_machine.specs.Reaches.{Reaches}
-use Rattle.tree_play.specs.TreePlay.{play}
+use Rattle.form_play.specs.FormPlay.{play}
 use Rattle.code_thread.specs.Exec.{code_events}
 use Rattle.code_gen.specs.Code.{program_code}
 

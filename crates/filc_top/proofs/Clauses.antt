@@ -5,7 +5,7 @@ use Rattle.filc_num.specs.declared.refusal.Refusal.{Refusal}
 use Rattle.filc_io.specs.Outside.{FilesState, Takes, append}
 use Rattle.ideal_machine.specs.declared.finish.Finish.{Finish}
 use Rattle.ideal_machine.specs.declared.finish.Finish.TheVariants.{Exited, Trapped}
-use Rattle.tree_play.specs.Observable.{finish_of}
+use Rattle.form_play.specs.Observable.{finish_of}
 use Rattle.single_thread.specs.Alone.{run_world, history_of_run}
 use Rattle.filc_top.specs.Commands.{IsNoCommand}
 use Rattle.filc_top.specs.Endings.{line_of, not_built}

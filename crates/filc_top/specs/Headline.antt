@@ -17,8 +17,8 @@ use Rattle.filc_code.specs.Plain.{PlainCode}
 use Rattle.ideal_machine.specs.declared.finish.Finish.{Finish}
 use Rattle.ideal_machine.specs.declared.finish.Finish.TheVariants.{Exited, Trapped}
 use Rattle.ideal_machine.specs.Play.{Cut}
-use Rattle.tree_play.specs.Legal.{IsLegalHistory}
-use Rattle.tree_play.specs.Observable.{bytes_of, finish_of}
+use Rattle.form_play.specs.Legal.{IsLegalHistory}
+use Rattle.form_play.specs.Observable.{bytes_of, finish_of}
 use Rattle.code_gen.specs.Code.{program_code}
 use Rattle.code_gen.specs.Correct.{Plays}
 use Rattle.single_thread.specs.Alone.{run_world, history_of_run, stop_of_run}

@@ -1,6 +1,6 @@
 //! The tree of the small form: a program whose names are resolved and whose conversions are explicit.
 //!
-//! `form_reader` makes it, the meaning of a run is defined on it (`tree_play`), and the compiler goes
+//! `form_reader` makes it, the meaning of a run is defined on it (`form_play`), and the compiler goes
 //! over it. Functions and locals are numbers, and each node knows its line.
 //!
 //! A file may nest to a stated depth, but its chains of operators of one level and its lists of

@@ -11,7 +11,7 @@ use Rattle.filc_num.specs.declared.reason.Reason.TheVariants.{OutputLimit}
 use Rattle.ideal_machine.specs.Queries.{Query, Makes, Reply, reply_to, event_of, room_reply}
 use Rattle.ideal_machine.specs.Play.{Gives, Stops, Asks, Jump, Call, Finished, Waits, Ends, Log, with_event, with_jump, with_call, Behaviour, log_of, by_reply, run_query, run}
 use Rattle.ideal_machine.specs.Phrases.{Phrase}
-use Rattle.tree_play.specs.Legal.{Entry, History}
+use Rattle.form_play.specs.Legal.{Entry, History}
 use Rattle.single_thread.specs.Alone.{room_answer, entry_of, memory_with, made_by, jumps_by}
 use Rattle.single_thread.proofs.Lone.{IsOver, IsLone}
 

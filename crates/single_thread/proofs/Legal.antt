@@ -19,9 +19,9 @@ use Rattle.ideal_machine.specs.Play.{Gives, Stops, Asks, Jump, Call, Finished, f
 use Rattle.ideal_machine.specs.Phrases.{Start, Phrase}
 use Rattle.ideal_machine.specs.Reaches.{Reaches}
 use Rattle.ideal_machine.proofs.Runs.{run_count, reached_events, no_length}
-use Rattle.tree_play.specs.TreePlay.{play_thread, play}
-use Rattle.tree_play.specs.Legal.{History, last_memory, AreAllowed, moments, AreShown, IsPlayed, ThreadsPlay, IsLegalHistory}
-use Rattle.tree_play.proofs.More.{more_rounds}
+use Rattle.form_play.specs.FormPlay.{play_thread, play}
+use Rattle.form_play.specs.Legal.{History, last_memory, AreAllowed, moments, AreShown, IsPlayed, ThreadsPlay, IsLegalHistory}
+use Rattle.form_play.proofs.More.{more_rounds}
 use Rattle.code_thread.specs.Exec.{exec_thread, code_events}
 use Rattle.code_gen.specs.Correct.{Plays}
 use Rattle.single_thread.specs.Alone.{made_by, main_start, main_begin, memory_after_begin, history_of_run, jumps_of_run}

@@ -9,7 +9,7 @@ use Rattle.ideal_machine.specs.Queries.{Makes}
 use Rattle.ideal_machine.specs.Play.{Gives, Stops, Asks, Jump, Call, Finished}
 use Rattle.ideal_machine.specs.Phrases.{Phrase}
 use Rattle.ideal_machine.proofs.Names.{shown_self}
-use Rattle.tree_play.specs.Legal.{History, memory_after, Moment, moments, is_begin, until_begin, thread_moments, answers_of, AreShown, BeginIsPlayed, ThreadsPlay}
+use Rattle.form_play.specs.Legal.{History, memory_after, Moment, moments, is_begin, until_begin, thread_moments, answers_of, AreShown, BeginIsPlayed, ThreadsPlay}
 use Rattle.single_thread.specs.Alone.{made_by}
 use Rattle.single_thread.proofs.Lone.{IsOver, IsLone}
 use Rattle.single_thread.proofs.Gained.{by_room, out_made, events_of, entry_answers}

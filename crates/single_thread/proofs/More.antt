@@ -11,8 +11,8 @@ use Rattle.ideal_machine.specs.Queries.{Query, Makes, Reply, reply_to, event_of,
 use Rattle.ideal_machine.specs.Play.{Gives, Stops, Asks, Jump, Call, Finished, Waits, Cut, by_reply}
 use Rattle.ideal_machine.specs.Phrases.{Phrase}
 use Rattle.ideal_machine.proofs.Cuts.{IsCutOf}
-use Rattle.tree_play.specs.Legal.{History}
-use Rattle.tree_play.specs.Observable.{finish_of}
+use Rattle.form_play.specs.Legal.{History}
+use Rattle.form_play.specs.Observable.{finish_of}
 use Rattle.code_thread.specs.Exec.{exec_thread}
 use Rattle.code_thread.proofs.Cuts.{thread_cut}
 use Rattle.single_thread.specs.Alone.{answer_of, entry_of, memory_with, made_by, main_start, main_begin, memory_after_begin}

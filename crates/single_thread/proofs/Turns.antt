@@ -18,7 +18,7 @@ use Rattle.ideal_machine.specs.declared.event.Answer.TheVariants.{Refused, Done}
 use Rattle.ideal_machine.specs.Queries.{Query, Makes, EventReply, event_reply, Reply, reply_to, wish_of}
 use Rattle.ideal_machine.specs.Play.{Stops, Asks, Cut}
 use Rattle.ideal_machine.specs.Phrases.{Phrase, trap}
-use Rattle.tree_play.specs.Observable.{Observable, bytes_of, finish_of}
+use Rattle.form_play.specs.Observable.{Observable, bytes_of, finish_of}
 use Rattle.code_thread.specs.declared.stage.Stage.{Stage}
 use Rattle.code_thread.specs.declared.stage.Stage.TheVariants.{Acts, PutsOut, Exits}
 use Rattle.code_thread.specs.declared.stage.Halt.TheVariants.{Finished}

@@ -18,7 +18,7 @@ use Rattle.ideal_machine.specs.Play.{Cut, Stop, Waits, Gives, bind, by_reply}
 use Rattle.ideal_machine.specs.Phrases.{Phrase, if_zero, unless_refused, operator_result, arithmetic_result}
 use Rattle.ideal_machine.specs.Queries.{room_reply}
 use Rattle.ideal_machine.specs.declared.event.Event.TheVariants.{Out}
-use Rattle.tree_play.specs.Observable.{finish_of}
+use Rattle.form_play.specs.Observable.{finish_of}
 use Rattle.code_thread.specs.Exec.{Next, go_to, act, act_at, exec, exec_called, first_registers}
 use Rattle.code_thread.proofs.Threads.{first_inside, instruction_inside, next_inside, op_formed}
 use Rattle.single_thread.specs.Alone.{room_answer, memory_with, made_by, stop_by, memory_after_begin}

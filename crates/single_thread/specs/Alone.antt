@@ -17,8 +17,8 @@ use Rattle.ideal_machine.specs.Values.{zero_value}
 use Rattle.ideal_machine.specs.Queries.{reply_to, event_of, wish_of}
 use Rattle.ideal_machine.specs.Play.{Stop, Waits, Gives, Stops, Asks, Jump, Call, by_reply}
 use Rattle.ideal_machine.specs.Phrases.{Start, Phrase}
-use Rattle.tree_play.specs.Legal.{Entry, History, memory_after}
-use Rattle.tree_play.specs.Observable.{Observable, observable_of}
+use Rattle.form_play.specs.Legal.{Entry, History, memory_after}
+use Rattle.form_play.specs.Observable.{Observable, observable_of}
 use Rattle.code_thread.specs.Exec.{place_address, exec_thread}
 
 -- ---- the machine's answers

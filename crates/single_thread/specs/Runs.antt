@@ -5,8 +5,8 @@ use Rattle.filc_code.specs.Plain.{PlainCode}
 use Rattle.filc_code.specs.WellFormed.{IsWellFormed}
 use Rattle.ideal_machine.specs.Memory.{World}
 use Rattle.ideal_machine.specs.Play.{Cut}
-use Rattle.tree_play.specs.Legal.{History, IsLegalHistory}
-use Rattle.tree_play.specs.Observable.{finish_of}
+use Rattle.form_play.specs.Legal.{History, IsLegalHistory}
+use Rattle.form_play.specs.Observable.{finish_of}
 use Rattle.code_gen.specs.Correct.{Plays}
 use Rattle.single_thread.specs.Alone.{history_of_run, jumps_of_run, stop_of_run}
 

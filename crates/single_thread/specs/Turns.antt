@@ -7,7 +7,7 @@ use Rattle.ideal_machine.specs.declared.finish.Finish.TheVariants.{Trapped}
 use Rattle.ideal_machine.specs.Memory.{Memory}
 use Rattle.ideal_machine.specs.Play.{Stops, Waits}
 use Rattle.ideal_machine.specs.Phrases.{Phrase}
-use Rattle.tree_play.specs.Observable.{Observable, bytes_of, finish_of}
+use Rattle.form_play.specs.Observable.{Observable, bytes_of, finish_of}
 use Rattle.code_thread.specs.declared.stage.Stage.{Stage}
 use Rattle.code_thread.specs.declared.stage.Stage.TheVariants.{Acts, PutsOut, Exits, Traps}
 use Rattle.code_thread.specs.Thread.{Thread, plays_on, IsThreadOf}

@@ -1,5 +1,8 @@
-pub mod Far
+pub mod Related
 pub mod More
-mod Beginnings
+pub mod Far
 mod EndsLast
-mod Objects
+mod Depth
+mod Histories
+mod Gapless
+mod Torn

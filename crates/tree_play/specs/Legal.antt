@@ -3,14 +3,14 @@
 -- A history is what happened, in the order in which it took effect: events with their answers, and who made
 -- them. It is legal where each entry is allowed in the memory that those before it left, and each thread plays
 -- its C text on the answers that it got.
-use Rattle.std.specs.Prelude.{ℕ, ◌==◌, List, [], ◌∷◌, Bool, true, false, map, filter, if◌then◌else◌}
-use Rattle.filc_num.specs.StaticDefs.{PlainStatic}
-use Rattle.form_tree.specs.Plain.{PlainProgram}
+use Rattle.std.specs.Prelude.{◌≡◌, ℕ, ◌==◌, List, [], ◌∷◌, Bool, true, false, Some, slice_get, map, filter, if◌then◌else◌}
+use Rattle.filc_num.specs.StaticDefs.{PlainStatic, plain_static}
+use Rattle.c_tree.specs.Plain.{PlainProgram}
 use Rattle.ideal_machine.specs.declared.value.Half.{Half}
 use Rattle.ideal_machine.specs.declared.event.Event.{Event}
 use Rattle.ideal_machine.specs.declared.event.Event.TheVariants.{Begin}
 use Rattle.ideal_machine.specs.declared.event.Answer.{Answer}
-use Rattle.ideal_machine.specs.Memory.{Memory, World, address_in, thread_id}
+use Rattle.ideal_machine.specs.Memory.{Object, Memory, World, thread_id}
 use Rattle.ideal_machine.specs.Beginning.{first_memory}
 use Rattle.ideal_machine.specs.Allows.{IsAllowed}
 use Rattle.ideal_machine.specs.Effects.{effect_of}
@@ -109,20 +109,24 @@ ThreadsPlay n program base memory (entry ∷ rest) =
 
 -- ---- legal histories
 
--- the static objects of a program; the small form has none
+-- the static objects of a program
 abbrev pub statics_of : PlainProgram → List PlainStatic
-statics_of program = []
+statics_of program = map plain_static program.statics
 
 -- the memory in which a run of a program begins
 abbrev pub memory_before : World → PlainProgram → Memory
 memory_before world program = first_memory world (statics_of program) program.main
 
+-- each object of a memory lies where this says
+abbrev pub LieAt : (ℕ → ℕ) → Memory → Type 0
+LieAt base memory = (n : ℕ) (object : Object) → slice_get memory.objects n ≡ Some object → object.address ≡ base n
+
 -- a history that a program may have, where each loop makes at most n rounds. The first memory has the program's static
 -- objects and one started slot, that of `main`, so its Begin comes first. A thread plays nothing after its Exit, Trap or
 -- End, so whoever ended the program makes no event after that; others may make some. Objects never move, so a thread
--- finds each one where the last memory has it
+-- finds each one where it lies in the last memory
 pub record IsLegalHistory (history : History) (program : PlainProgram) (world : World) (n : ℕ) : Type 0 where
   pub allowed : AreAllowed world (memory_before world program) history
-  pub played :
-      ThreadsPlay n program (address_in (last_memory (memory_before world program) history))
-      (memory_before world program) history
+  pub base : ℕ → ℕ
+  pub addresses : LieAt base (last_memory (memory_before world program) history)
+  pub played : ThreadsPlay n program base (memory_before world program) history

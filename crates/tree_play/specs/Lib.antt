@@ -1,8 +1,15 @@
+pub mod Around
+pub mod Memory
+pub mod Apply
+pub mod Printing
+pub mod Expressions
+pub mod Statements
 pub mod TreePlay
 pub mod Legal
 pub mod Observable
 pub mod MoreRounds
-pub mod Beginnings
+pub mod MoreAnswers
 pub mod EndsLast
-pub mod Objects
+pub mod Histories
+pub mod Gapless
 pub mod Worked

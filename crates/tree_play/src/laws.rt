@@ -1,21 +1,54 @@
-//! Laws of legal histories.
+//! Laws of the play, and worked plays.
 
-ghost use Rattle.tree_play.specs.Beginnings.{BeginningsAreLegal};
-ghost use Rattle.tree_play.specs.EndsLast.{NothingFollowsAnEnd};
 ghost use Rattle.tree_play.specs.MoreRounds.{MoreRounds};
-ghost use Rattle.tree_play.specs.Objects.{ObjectsStay, ObjectsNeverMove};
-ghost use Rattle.tree_play.specs.Objects.{ObjectsAreApart, CoveredObjectsAreNotNamed};
-ghost use Rattle.tree_play.specs.Worked.{MainReturns, NothingElse, NothingAfterExit, NoSecondBegin};
-ghost use Rattle.tree_play.specs.Worked.{ThreadsHaveTheirIds};
+ghost use Rattle.tree_play.specs.MoreAnswers.{MoreAnswers};
+ghost use Rattle.tree_play.specs.EndsLast.{NothingFollowsAnEnd};
+ghost use Rattle.tree_play.specs.Gapless.{ProgramsAreGapless};
+ghost use Rattle.tree_play.specs.Histories.{HistoriesStayLegal, BeginningsAreLegal};
+ghost use Rattle.tree_play.specs.Worked.Integers.{IntRead, IntStore, RefusedRead};
+ghost use Rattle.tree_play.specs.Worked.Integers.{NoCellIsNoReason, IntSwap, IntFetch, IntCombine};
+ghost use Rattle.tree_play.specs.Worked.Integers.{AtomicDivision, IntExchange, IntExchangeFails};
+ghost use Rattle.tree_play.specs.Worked.Integers.{BoolExchangeFails, OperatorsCompute};
+ghost use Rattle.tree_play.specs.Worked.Integers.{OperatorsTrap};
+ghost use Rattle.tree_play.specs.Worked.Pointers.{PointerRead, PairRead, PointerStore, PairStore};
+ghost use Rattle.tree_play.specs.Worked.Pointers.{PairSwap, PlainSwap, NoCellTraps, TornRead};
+ghost use Rattle.tree_play.specs.Worked.PairExchanges.{ExchangeIsMade, ExchangeIsTriedAgain};
+ghost use Rattle.tree_play.specs.Worked.PairExchanges.{ExchangeFails, ExchangeWantsACell};
+ghost use Rattle.tree_play.specs.Worked.Addresses.{PointersMove, AddressesComeRound};
+ghost use Rattle.tree_play.specs.Worked.Addresses.{FunctionsHaveAddresses, IntegersNameNothing};
+ghost use Rattle.tree_play.specs.Worked.Addresses.{PointersHaveDistances, PointersAreCompared};
+ghost use Rattle.tree_play.specs.Worked.Addresses.{PointersBecomeIntegers};
+ghost use Rattle.tree_play.specs.Worked.Intrinsics.{LockIsTaken, LockIsCheckedAgain};
+ghost use Rattle.tree_play.specs.Worked.Intrinsics.{LockIsRefused, ObjectIsMade, ObjectIsFreed};
+ghost use Rattle.tree_play.specs.Worked.Intrinsics.{SizeIsTold, ByteIsPutOut, ByteIsTakenIn};
+ghost use Rattle.tree_play.specs.Worked.Intrinsics.{ThreadIsStarted, ThreadIsJoined};
+ghost use Rattle.tree_play.specs.Worked.Intrinsics.{ThreadHasAnId, ProgramEnds};
+ghost use Rattle.tree_play.specs.Worked.Order.{LvalueComesFirst, OldValueIsReadLate};
+ghost use Rattle.tree_play.specs.Worked.Order.{LocalIsReadLate, StepGivesTheOldValue};
+ghost use Rattle.tree_play.specs.Worked.Order.{LeftComesFirst, PointerIsLookedAtLast, LogicStops};
+ghost use Rattle.tree_play.specs.Worked.Order.{OneIsChosen, CommaGivesTheRight};
+ghost use Rattle.tree_play.specs.Worked.Statements.{HomeIsMade, ParameterIsMoved};
+ghost use Rattle.tree_play.specs.Worked.Statements.{LocalsAreZeroAgain, HomesStay, LoopGoesRound};
+ghost use Rattle.tree_play.specs.Worked.Statements.{ContinueMakesTheStep, ReturnLeavesTheLoop};
+ghost use Rattle.tree_play.specs.Worked.Statements.{LoopIsCut, SwitchPassesOver, SwitchContinues};
+ghost use Rattle.tree_play.specs.Worked.Copies.{WordsAreCopied, BytesAreCopied};
+ghost use Rattle.tree_play.specs.Worked.Printing.{PrintIsLocked, PrintIsRefused};
+ghost use Rattle.tree_play.specs.Worked.Programs.{MainExits, ThreadEnds, ArgumentsArePassed};
+ghost use Rattle.tree_play.specs.Worked.Programs.{PointersAreCalled, HomeOutlivesItsCall};
+ghost use Rattle.tree_play.specs.Worked.Lines.{DivisionHasItsLine, LibraryHasTheUsersLine};
+ghost use Rattle.tree_play.specs.Worked.Lines.{LibraryCallsFurther, FirstFunctionHasItsLine};
+ghost use Rattle.tree_play.specs.Worked.Lines.{DepthHasTheUsersLine};
+ghost use Rattle.tree_play.specs.Worked.Depth.{DepthIsReached, DepthIsPassed};
+ghost use Rattle.tree_play.specs.Worked.Histories.{TornPairIsLegal};
 
-/// A history stays legal where each loop may make more rounds.
-pub fn histories_stay_legal()
+/// With a greater bound on rounds a thread that was cut goes on, and any other does the same.
+pub fn more_rounds_only_add()
     ensures { MoreRounds }
 {}
 
-/// Each beginning of a legal history is legal.
-pub fn beginnings_are_legal()
-    ensures { BeginningsAreLegal }
+/// With more answers a thread does all that it did, or goes on where it waited.
+pub fn more_answers_only_add()
+    ensures { MoreAnswers }
 {}
 
 /// A thread makes nothing after it ended itself or the program.
@@ -23,28 +56,162 @@ pub fn nothing_follows_an_end()
     ensures { NothingFollowsAnEnd }
 {}
 
-/// In a history no object moves, changes its size or comes back from being freed or covered.
-pub fn objects_stay()
-    ensures objects { ObjectsStay }
-    ensures addresses { ObjectsNeverMove }
+/// A history stays legal where each loop may make more rounds.
+pub fn histories_stay_legal()
+    ensures { HistoriesStayLegal }
 {}
 
-/// No thread sees two objects at one address: at no time do two in use share a byte, and what is
-/// covered is named no more.
-pub fn no_two_objects_are_seen_at_one_address()
-    ensures apart { ObjectsAreApart }
-    ensures covered { CoveredObjectsAreNotNamed }
+/// Each beginning of a legal history is legal.
+pub fn beginnings_are_legal()
+    ensures { BeginningsAreLegal }
 {}
 
-/// A worked example: the histories of a program that returns 3.
-pub fn a_program_returns_once()
-    ensures main_returns { MainReturns }
-    ensures nothing_else { NothingElse }
-    ensures nothing_after_exit { NothingAfterExit }
-    ensures no_second_begin { NoSecondBegin }
+/// A thread of a program waits for want of an answer, and for nothing else.
+pub fn programs_are_gapless()
+    ensures { ProgramsAreGapless }
 {}
 
-/// A thread is begun with the id of its slot and of the slot's generation.
-pub fn threads_have_their_ids()
-    ensures { ThreadsHaveTheirIds }
+/// Operators on integers make no event, and trap where they have no result.
+pub fn operators_make_no_event()
+    ensures compute { OperatorsCompute }
+    ensures trap { OperatorsTrap }
+{}
+
+/// Integers are read and stored by a check and one event.
+pub fn integers_are_checked_and_then_accessed()
+    ensures read { IntRead }
+    ensures store { IntStore }
+    ensures refused { RefusedRead }
+    ensures no_cell { NoCellIsNoReason }
+{}
+
+/// An atomic operation on an integer is one event after its check.
+pub fn atomic_integers_make_one_event()
+    ensures swap { IntSwap }
+    ensures fetch { IntFetch }
+    ensures combine { IntCombine }
+    ensures division { AtomicDivision }
+    ensures exchange { IntExchange }
+    ensures fails { IntExchangeFails }
+    ensures bytes { BoolExchangeFails }
+{}
+
+/// Pointers are read and stored by their two halves, or as a pair.
+pub fn pointers_have_two_halves()
+    ensures read { PointerRead }
+    ensures pair { PairRead }
+    ensures store { PointerStore }
+    ensures atomic_store { PairStore }
+    ensures swap { PairSwap }
+    ensures plain_swap { PlainSwap }
+    ensures no_cell { NoCellTraps }
+    ensures torn { TornRead }
+{}
+
+/// A compare and exchange of a pointer goes by addresses, and is tried again where another pointer
+/// came in between.
+pub fn pointers_are_exchanged_by_address()
+    ensures made { ExchangeIsMade }
+    ensures again { ExchangeIsTriedAgain }
+    ensures fails { ExchangeFails }
+    ensures no_cell { ExchangeWantsACell }
+{}
+
+/// A pointer that moves keeps its capability, and one that is looked at is named.
+pub fn addresses_move_and_are_looked_at()
+    ensures move_on { PointersMove }
+    ensures come_round { AddressesComeRound }
+    ensures functions { FunctionsHaveAddresses }
+    ensures integers { IntegersNameNothing }
+    ensures distances { PointersHaveDistances }
+    ensures comparisons { PointersAreCompared }
+    ensures conversions { PointersBecomeIntegers }
+{}
+
+/// Each intrinsic makes its event, and gives what it is answered.
+pub fn intrinsics_make_their_events()
+    ensures lock { LockIsTaken }
+    ensures lock_again { LockIsCheckedAgain }
+    ensures lock_refused { LockIsRefused }
+    ensures new { ObjectIsMade }
+    ensures free { ObjectIsFreed }
+    ensures size { SizeIsTold }
+    ensures out { ByteIsPutOut }
+    ensures input { ByteIsTakenIn }
+    ensures spawn { ThreadIsStarted }
+    ensures join { ThreadIsJoined }
+    ensures id { ThreadHasAnId }
+    ensures ends { ProgramEnds }
+{}
+
+/// Operands are evaluated from left to right, and the old value of an assignment is read last.
+pub fn evaluation_has_an_order()
+    ensures lvalue { LvalueComesFirst }
+    ensures old_value { OldValueIsReadLate }
+    ensures local { LocalIsReadLate }
+    ensures step { StepGivesTheOldValue }
+    ensures left { LeftComesFirst }
+    ensures pointer { PointerIsLookedAtLast }
+    ensures logic { LogicStops }
+    ensures choice { OneIsChosen }
+    ensures comma { CommaGivesTheRight }
+{}
+
+/// Blocks make homes, loops go round, and switches pass over declarations.
+pub fn statements_have_flows()
+    ensures home { HomeIsMade }
+    ensures parameter { ParameterIsMoved }
+    ensures zero { LocalsAreZeroAgain }
+    ensures homes_stay { HomesStay }
+    ensures round { LoopGoesRound }
+    ensures step { ContinueMakesTheStep }
+    ensures leaves { ReturnLeavesTheLoop }
+    ensures cut { LoopIsCut }
+    ensures passes { SwitchPassesOver }
+    ensures continues { SwitchContinues }
+{}
+
+/// Structures are copied unit by unit.
+pub fn structures_are_copied()
+    ensures words { WordsAreCopied }
+    ensures bytes { BytesAreCopied }
+{}
+
+/// `printf` holds the lock of the output while it puts out its pieces.
+pub fn printf_locks_the_output()
+    ensures locked { PrintIsLocked }
+    ensures refused { PrintIsRefused }
+{}
+
+/// `main` ends the program, another first function its thread.
+pub fn threads_end_by_their_return()
+    ensures main { MainExits }
+    ensures thread { ThreadEnds }
+{}
+
+/// Functions are called by number and through pointers, and homes outlive their calls.
+pub fn functions_are_called()
+    ensures arguments { ArgumentsArePassed }
+    ensures pointers { PointersAreCalled }
+    ensures home { HomeOutlivesItsCall }
+{}
+
+/// A trap has the line of the innermost text of the user's.
+pub fn traps_have_lines()
+    ensures division { DivisionHasItsLine }
+    ensures library { LibraryHasTheUsersLine }
+    ensures further { LibraryCallsFurther }
+    ensures first { FirstFunctionHasItsLine }
+    ensures depth { DepthHasTheUsersLine }
+{}
+
+/// A thread has 1,024 activations at once, and the call of one more traps.
+pub fn calls_have_a_depth()
+    ensures reached { DepthIsReached }
+    ensures passed { DepthIsPassed }
+{}
+
+/// A worked example: a history in which two threads store a pointer, and what is read back is torn.
+pub fn a_torn_pair_is_legal()
+    ensures { TornPairIsLegal }
 {}

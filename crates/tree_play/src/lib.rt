@@ -1,9 +1,9 @@
 //! The meaning of a program: what its C text asks of the abstract machine.
 //!
-//! Each construct of C has its equation in `specs/TreePlay.antt`, with no schedule, no code and no
-//! heap. `specs/Legal.antt` puts the threads' plays and the machine's transitions together: it says
-//! which histories a program may have. `specs/Observable.antt` says what of a history the outside
-//! sees.
+//! `specs/Apply.antt` has a line for each operation, `specs/Expressions.antt` and
+//! `specs/Statements.antt` an equation for each construct, and `specs/TreePlay.antt` puts them
+//! together to the play of a thread. What each event is asked for, and at which line it may trap,
+//! is said in `ideal_machine`, in phrases that register code cites too.
 //!
 //! The crate has definitions, laws about them, and no calls that a program makes.
 #![tactic(auto)]

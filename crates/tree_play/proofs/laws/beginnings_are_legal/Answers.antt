@@ -1,4 +1,4 @@
-use Rattle.tree_play.proofs.Beginnings.{beginnings_are_legal}
+use Rattle.tree_play.proofs.Histories.{beginnings_are_legal}
 use Rattle.tree_play.proofs.laws.beginnings_are_legal.Goals as goal
 
 pub returns : goal.returns

@@ -1,5 +1,5 @@
-use Rattle.tree_play.proofs.More.{more_rounds}
+use Rattle.tree_play.proofs.Histories.{histories_stay_legal}
 use Rattle.tree_play.proofs.laws.histories_stay_legal.Goals as goal
 
 pub returns : goal.returns
-returns c = more_rounds
+returns c = histories_stay_legal

@@ -1,0 +1,5 @@
+pub mod Far
+pub mod More
+mod Beginnings
+mod EndsLast
+mod Objects

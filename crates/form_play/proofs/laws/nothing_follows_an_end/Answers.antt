@@ -1,0 +1,5 @@
+use Rattle.form_play.proofs.EndsLast.{nothing_follows}
+use Rattle.form_play.proofs.laws.nothing_follows_an_end.Goals as goal
+
+pub returns : goal.returns
+returns c = nothing_follows

@@ -1,8 +1,0 @@
-pub mod Related
-pub mod More
-pub mod Far
-mod EndsLast
-mod Depth
-mod Histories
-mod Gapless
-mod Torn

@@ -1,5 +1,0 @@
-use Rattle.whole_play.proofs.Histories.{beginnings_are_legal}
-use Rattle.whole_play.proofs.laws.beginnings_are_legal.Goals as goal
-
-pub returns : goal.returns
-returns c = beginnings_are_legal

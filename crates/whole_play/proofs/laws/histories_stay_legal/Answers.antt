@@ -1,5 +1,0 @@
-use Rattle.whole_play.proofs.Histories.{histories_stay_legal}
-use Rattle.whole_play.proofs.laws.histories_stay_legal.Goals as goal
-
-pub returns : goal.returns
-returns c = histories_stay_legal

@@ -1,5 +1,0 @@
-use Rattle.whole_play.proofs.More.{more_answers}
-use Rattle.whole_play.proofs.laws.more_answers_only_add.Goals as goal
-
-pub returns : goal.returns
-returns c = more_answers

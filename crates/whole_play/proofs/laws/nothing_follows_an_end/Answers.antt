@@ -1,5 +1,0 @@
-use Rattle.whole_play.proofs.EndsLast.{nothing_follows}
-use Rattle.whole_play.proofs.laws.nothing_follows_an_end.Goals as goal
-
-pub returns : goal.returns
-returns c = nothing_follows

@@ -1,5 +1,0 @@
-use Rattle.whole_play.proofs.Gapless.{programs_are_gapless}
-use Rattle.whole_play.proofs.laws.programs_are_gapless.Goals as goal
-
-pub returns : goal.returns
-returns c = programs_are_gapless
