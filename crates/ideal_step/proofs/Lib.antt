@@ -2,3 +2,4 @@ pub mod Parts
 pub mod Allowed
 pub mod Addresses
 pub mod Firsts
+pub mod Limits

@@ -7,6 +7,7 @@
 mod allow;
 mod beginning;
 mod ideal;
+pub mod laws;
 mod look;
 mod make;
 mod names;
@@ -20,5 +21,7 @@ mod threads;
 pub use ideal::Ideal;
 pub use step::ideal_step;
 
+#[cfg(test)]
+mod random_events;
 #[cfg(test)]
 mod tests;
