@@ -111,8 +111,8 @@ impl Ideal {
         write: bool,
         answer: Answer,
     ) -> bool
-        ensures { (world : World)
-            → (IsTrue result ↔ IsAnswer world self.now (Event.Check half address width write) answer) }
+        ensures { (world : World) → (IsTrue result
+            ↔ IsAnswer world self.now (Event.Check half address width write) answer) }
     {
         if !is_width(width) {
             return false;
@@ -124,8 +124,8 @@ impl Ideal {
 
     /// Whether the answer is the integer of an access.
     fn is_integer_answer(&self, access: &Access, answer: Answer) -> bool
-        ensures { IsTrue result
-            ↔ (IsAccess self.now access.now × (answer ≡ Answer.Number (integer_at self.now access.now))) }
+        ensures { IsTrue result ↔ (IsAccess self.now access.now
+            × (answer ≡ Answer.Number (integer_at self.now access.now))) }
     {
         self.is_access(access) && answer == Answer::Number(self.integer_at(access))
     }
