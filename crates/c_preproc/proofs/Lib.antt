@@ -8,6 +8,7 @@ pub mod Frames
 pub mod MacroTable
 pub mod Store
 pub mod Steps
+pub mod Staying
 pub mod Blocks
 pub mod Balance
 pub mod ConditionFrames

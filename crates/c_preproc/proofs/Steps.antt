@@ -334,7 +334,7 @@ module _ (s : Setting) (indexed : IsIndexed s.places s.entries) (limit : ℕ) (x
                 seats = walking.store.seats;
                 spots = omega (arith, walking.store.spots, ap length spot, length-set x.spots.items frame.entry (length x.kept.items));
                 kept = subst (λ ss. AllKept s ss kept.items x.tokens.items) (sym spot) (subst (λ ks. AllKept s (set x.spots.items frame.entry (length x.kept.items)) ks x.tokens.items) (sym pushed)
-                    (kept_one_more x.spots.items x.kept.items k there s x.tokens.items walking.store.kept was_new (omega (arith, last, traced_first.0.opened.within)) (omega (arith, last)) (subst (NameYields s more frame.entry) (sym part) named)));
+                    (kept_one_more x.spots.items x.kept.items k there s x.tokens.items walking.store.kept was_new below (omega (arith, last, traced_first.0.opened.within)) (omega (arith, last)) (subst (NameYields s more frame.entry) (sym part) named)));
               };
               placed = record {
                 seated = seated-less x.seats.items (entries_of x.stack.items) frame.entry seated_with;

@@ -32,6 +32,7 @@ pub kept_grown : (s : Setting) (spots : List ℕ) (kept : List Kept) (tokens mor
 kept_grown s spots kept tokens more all index k there =
     let old = all index k there in
     record {
+      below = old.below;
       spot = old.spot;
       ordered = old.ordered;
       within = omega (arith, old.within, length-append tokens more);
@@ -94,15 +95,16 @@ module _ (spots : List ℕ) (kept : List Kept) (k : Kept) (there : k.entry < len
       by false e = others_kept entry (λ same. false≢true (sym e ∙ eq-eqb k.entry entry (sym same))) ∙ old
 
   -- what is kept is kept with one more
-  pub kept_one_more : (s : Setting) (tokens : List Token) → AllKept s spots kept tokens → is_kept spots kept k.entry ≡ false → k.start ≤ k.end → k.end ≤ length tokens
+  pub kept_one_more : (s : Setting) (tokens : List Token) → AllKept s spots kept tokens → is_kept spots kept k.entry ≡ false → k.entry < length s.entries → k.start ≤ k.end → k.end ≤ length tokens
       → NameYields s (is_kept (set spots k.entry (length kept)) (kept ++ k ∷ [])) k.entry (part_of tokens k.start k.end) → AllKept s (set spots k.entry (length kept)) (kept ++ k ∷ []) tokens
-  kept_one_more s tokens all new ordered within yields index x at = by (slice_get kept index) refl
+  kept_one_more s tokens all new known ordered within yields index x at = by (slice_get kept index) refl
     where
       was_kept : slice_get kept index ≡ Some x → IsKept s (set spots k.entry (length kept)) (kept ++ k ∷ []) tokens index x
       was_kept was =
           let old = all index x was in
           let apart : x.entry ≢ k.entry = λ same. false≢true (sym new ∙ ap (is_kept spots kept) (sym same) ∙ ap (λ i. is_some (if_of x.entry (slice_get kept i))) old.spot ∙ ap (λ o. is_some (if_of x.entry o)) was ∙ ap (λ b. is_some (cond b (Some x) None)) (eq-eqb x.entry x.entry refl)) in
           record {
+            below = old.below;
             spot = get_or-set_other spots k.entry x.entry (length kept) 0 apart ∙ old.spot;
             ordered = old.ordered;
             within = old.within;
@@ -120,6 +122,7 @@ module _ (spots : List ℕ) (kept : List Kept) (k : Kept) (there : k.entry < len
           let same : Some x ≡ Some k = sym at ∙ slice_get_last kept k index last in
           let is : k ≡ x = cc in
           subst (IsKept s (set spots k.entry (length kept)) (kept ++ k ∷ []) tokens index) is (record {
+            below = known;
             spot = get_or-set_same spots k.entry (length kept) 0 there ∙ sym last;
             ordered = ordered;
             within = within;

@@ -8,12 +8,13 @@
 //! 3. What the outermost frame put into the store is copied behind the list.
 //!
 //! So a name is gone through once, but for those that lead back to themselves, and an expansion to
-//! nothing is the case of no tokens. What is kept holds until a macro is defined or undefined.
+//! nothing is the case of no tokens. What is kept holds until a macro is undefined, or a name is defined
+//! that stands in a macro's tokens.
 //!
 //! Which entries are open, and which are kept, are sparse sets (Briggs and Torczon): an entry is one of
 //! them if the element at its index is its own. So neither the seats nor the spots are ever cleaned.
 
-ghost use Rattle.std.specs.Prelude.{◌≡◌, ◌∷◌, ◌++◌, ◌+◌, ◌≤◌, ◌<◌, [], IfOk, OnOk, OnErr, MatchOption, Some, ℕ, true, false, length, map, reverse, slice_set};
+ghost use Rattle.std.specs.Prelude.{◌≡◌, ◌∷◌, ◌++◌, ◌+◌, ◌≤◌, ◌<◌, [], IfOk, OnOk, OnErr, MatchOption, Some, ℕ, true, false, length, map, reverse, slice_index, slice_set};
 ghost use Rattle.c_preproc.specs.Expansion.{token_limit};
 ghost use Rattle.c_preproc.specs.Macros.{expansion_of_token, placed_at, replacement_of};
 ghost use Rattle.c_preproc.specs.Code.Table.{IsIndexed, place_of};
@@ -378,11 +379,28 @@ impl Expander {
         self.tokens.clear();
     }
 
+    /// Nothing is kept any more, if that is so.
+    pub fn forget_where(&mut self, is_so: bool)
+        ensures all { is_so ≡ true → self.new.kept.items ≡ [] }
+        ensures none { is_so ≡ false → (self.new.kept.items ≡ self.old.kept.items) × (self.new.tokens.items
+            ≡ self.old.tokens.items) }
+        ensures spots { self.new.spots.items ≡ self.old.spots.items }
+        ensures seats { self.new.seats.items ≡ self.old.seats.items }
+    {
+        if is_so {
+            self.forget();
+        }
+    }
+
     /// Makes room for one more entry.
+    #[tactic(auto, using(crate::proofs::Staying::zero_behind))]
     pub fn grow(&mut self) -> Result<(), AllocError>
         ensures kept { self.new.kept.items ≡ self.old.kept.items }
         ensures spots { OnOk result (length self.old.spots.items + 1 ≤ length self.new.spots.items) }
         ensures seats { OnOk result (length self.old.seats.items + 1 ≤ length self.new.seats.items) }
+        ensures tokens { self.new.tokens.items ≡ self.old.tokens.items }
+        ensures same_spots { (entry : ℕ)
+            → slice_index self.new.spots.items entry ≡ slice_index self.old.spots.items entry }
         ensures more_spots { length self.old.spots.items ≤ length self.new.spots.items }
         ensures more_seats { length self.old.seats.items ≤ length self.new.seats.items }
     {

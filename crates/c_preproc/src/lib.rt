@@ -38,6 +38,7 @@ mod fault;
 mod groups;
 pub mod laws;
 mod macros;
+mod name_filter;
 mod names;
 mod state;
 mod texts;

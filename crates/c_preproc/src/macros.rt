@@ -11,6 +11,7 @@ ghost use Rattle.c_preproc.specs.Macros.{Macro, expansion_of_token, macro_of, wi
 ghost use Rattle.c_preproc.specs.Texts.{text_of};
 
 use crate::expander::{Expander, Fit};
+use crate::name_filter::NameFilter;
 use crate::texts::text_of;
 use c_lexer::{Token, TokenKind};
 use std::alloc::{AllocError, Global};
@@ -63,6 +64,7 @@ pub struct Macros {
     bytes: Vec<u8>,
     table: Table,
     expander: Expander,
+    names: NameFilter,
 }
 
 impl Model for Macros {
@@ -74,25 +76,26 @@ impl Model for Macros {
 
     ghost view = { λ m. definitions_of m.bytes m.table };
 
-    ghost invariant = { λ m. IsDefined m.bytes m.table m.expander };
+    ghost invariant = { λ m. IsDefined m.bytes m.table m.expander m.names };
 }
 
 impl Macros {
     /// No macros, and these bytes.
-    fn empty(alloc: Global, bytes: Vec<u8>) -> Macros
+    fn empty(alloc: Global, bytes: Vec<u8>) -> Result<Macros, AllocError>
         requires digits { 2 ≤ vec_len bytes }
         requires small { vec_len bytes < 2 ^ 32 }
-        ensures bytes { result.bytes ≡ bytes.items }
-        ensures macros { result.macros ≡ [] }
+        ensures bytes { IfOk result (λ macros. macros.bytes ≡ bytes.items) }
+        ensures macros { IfOk result (λ macros. macros.macros ≡ []) }
     {
-        Macros {
+        Ok(Macros {
             bytes,
             table: Table {
                 entries: Vec::new(alloc),
                 index: BTreeMap::new(alloc),
             },
             expander: Expander::new(alloc),
-        }
+            names: NameFilter::new(alloc)?,
+        })
     }
 
     /// `__FILC__` alone, which is 1.
@@ -113,7 +116,7 @@ impl Macros {
         let mut bytes = Vec::from_slice(alloc, file)?;
         bytes.push(b'1')?;
         bytes.push(b'0')?;
-        let mut macros = Macros::empty(alloc, bytes);
+        let mut macros = Macros::empty(alloc, bytes)?;
         macros.define(alloc, b"__FILC__", &[one])?;
         Ok(macros)
     }
@@ -150,7 +153,7 @@ impl Macros {
         self.body_of(text_of(&self.bytes, name)).is_some()
     }
 
-    /// Defines a macro that isn't defined.
+    /// Defines a macro that isn't defined. What is kept stays so where no macro's tokens have the name.
     fn define(&mut self, alloc: Global, name: &[u8], body: &[Token]) -> Result<(), AllocError>
         requires { macro_of self.old.macros name.now ≡ None }
         ensures bytes { self.new.bytes ≡ self.old.bytes }
@@ -164,7 +167,8 @@ impl Macros {
             body: Vec::from_slice(alloc, body)?,
         };
         let place = self.table.entries.len();
-        self.expander.forget();
+        self.expander.forget_where(self.names.may_have(name));
+        self.names.add_all(&self.bytes, body);
         self.expander.grow()?;
         self.table.entries.push(entry)?;
         self.table.index.insert(key, place)?;

@@ -110,6 +110,7 @@ NameYields s kept entry out =
 
 -- a kept expansion is known by its spot, and its tokens stand for the entry's name
 pub record IsKept (s : Setting) (spots : List ℕ) (all : List Kept) (tokens : List Token) (index : ℕ) (kept : Kept) : Type 0 where
+  pub below : kept.entry < length s.entries
   pub spot : slice_index spots kept.entry ≡ index
   pub ordered : kept.start ≤ kept.end
   pub within : kept.end ≤ length tokens

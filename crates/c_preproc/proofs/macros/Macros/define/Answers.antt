@@ -1,25 +1,73 @@
 -- A definition is one entry more, which the index leads to unless it had no memory for it.
-use Rattle.std.proofs.Common.{◌≡◌, ◌∙◌, ◌∷◌, [], length, Some, None, ap, arith, sym, length-append}
+use Rattle.std.proofs.Common.{◌≡◌, ◌∙◌, ◌∷◌, [], ℕ, length, get_or, Some, None, ap, arith, sym, subst, length-append}
 use Rattle.c_preproc.specs.declared.macros.Entry.{Entry}
 use Rattle.c_preproc.specs.Code.Expander.{setting_of}
 use Rattle.c_preproc.specs.Macros.{Macro, macro_of}
-use Rattle.c_preproc.specs.Code.Table.{defined_of, place_of}
-use Rattle.c_preproc.proofs.MacroTable.{changed_by, made_indexed, made_macro, on_err, same_places, store_empty, unmade_indexed, unmade_macro}
+use Rattle.c_preproc.specs.Code.Table.{IsIndexed, body_at, defined_of, place_of}
+use Rattle.c_preproc.specs.Code.NameFilter.{AreIn, may_have}
+use Rattle.c_preproc.proofs.MacroTable.{Changes, changed_by, made_indexed, made_macro, on_err, same_places, then_absent, unmade_indexed, unmade_macro}
+use Rattle.c_preproc.proofs.Staying.{Carries, carries_made, carries_same, carries_unmade, filtered_on, filtered_push, store_after}
 use Rattle.c_preproc.proofs.macros.Macros.define.Goals as goal
+
+-- no memory, and the table as it was
+pub invariant_of-self : goal.invariant_of-self
+invariant_of-self c =
+    let m = c.self.inside in
+    record {
+      indexed = c.self.invariant.indexed;
+      digits = c.self.invariant.digits;
+      small = c.self.invariant.small;
+      store = store_after c.may_have.result (setting_of m.bytes.items m.table) (setting_of m.bytes.items m.table) m.expander c.grow.new.self
+          (λ met. c.grow.ensures.kept ∙ c.forget_where.ensures.all met) (λ free. (c.grow.ensures.kept ∙ (c.forget_where.ensures.none free).0, c.grow.ensures.tokens ∙ (c.forget_where.ensures.none free).1))
+          (omega (arith, c.self.invariant.store.seats, ap length c.forget_where.ensures.seats, c.grow.ensures.more_seats))
+          (omega (arith, c.self.invariant.store.spots, ap length c.forget_where.ensures.spots, c.grow.ensures.more_spots)) (omega arith)
+          (λ i. c.grow.ensures.same_spots i ∙ ap (λ spots. get_or spots i 0) c.forget_where.ensures.spots)
+          (λ free. carries_same (setting_of m.bytes.items m.table)) c.self.invariant.store;
+      filtered = filtered_on m.names.slots.items c.add_all.new.self.slots.items m.bytes.items m.table.entries.items c.add_all.ensures.more c.self.invariant.filtered;
+    }
+
+pub invariant_of-self-in_err-push : goal.invariant_of-self-in_err-push
+invariant_of-self-in_err-push c =
+    let m = c.self.inside in
+    let same = c.in_err-push.ensures.items in
+    let size = ap length same in
+    let s = setting_of m.bytes.items m.table in
+    record {
+      indexed = subst (IsIndexed (place_of m.table.index)) (sym same) c.self.invariant.indexed;
+      digits = c.self.invariant.digits;
+      small = c.self.invariant.small;
+      store = store_after c.may_have.result (setting_of m.bytes.items m.table) (setting_of m.bytes.items (record { entries = c.push.new.self; index = m.table.index })) m.expander c.grow.new.self
+          (λ met. c.grow.ensures.kept ∙ c.forget_where.ensures.all met) (λ free. (c.grow.ensures.kept ∙ (c.forget_where.ensures.none free).0, c.grow.ensures.tokens ∙ (c.forget_where.ensures.none free).1))
+          (omega (arith, c.self.invariant.store.seats, ap length c.forget_where.ensures.seats, c.grow.ensures.more_seats, size))
+          (omega (arith, c.self.invariant.store.spots, ap length c.forget_where.ensures.spots, c.grow.ensures.more_spots, size)) (omega (arith, size))
+          (λ i. c.grow.ensures.same_spots i ∙ ap (λ spots. get_or spots i 0) c.forget_where.ensures.spots)
+          (λ free. subst (λ entries. Carries s (record s { entries = entries })) (sym same) (carries_same s)) c.self.invariant.store;
+      filtered = subst (λ entries. (place : ℕ) → AreIn c.add_all.new.self.slots.items m.bytes.items (body_at entries place)) (sym same)
+          (filtered_on m.names.slots.items c.add_all.new.self.slots.items m.bytes.items m.table.entries.items c.add_all.ensures.more c.self.invariant.filtered);
+    }
 
 pub invariant_of-self-in_err-insert : goal.invariant_of-self-in_err-insert
 invariant_of-self-in_err-insert c =
     let m = c.self.inside in
     let e : Entry = record { name = c.in_ok-from_slice.field-0; body = c.in_ok-from_slice-2.field-0 } in
     let pushed = c.in_ok-push.ensures.items in
-    let size = length-append m.table.entries.items (e ∷ []) in
+    let size = ap length pushed ∙ length-append m.table.entries.items (e ∷ []) in
+    let filter = c.add_all.new.self.slots.items in
+    let added : AreIn filter m.bytes.items e.body.items =
+    subst (λ ts. AreIn filter m.bytes.items ts) (sym c.in_ok-from_slice-2.ensures.items) (subst (λ bs. AreIn filter bs c.args.body.now) c.deref.ensures.value c.add_all.ensures.added) in
+    let filtered : (place : ℕ) → AreIn filter m.bytes.items (body_at c.push.new.self.items place) =
+    subst (λ es. (place : ℕ) → AreIn filter m.bytes.items (body_at es place)) (sym pushed) (filtered_push m.names.slots.items filter m.bytes.items m.table.entries.items e c.add_all.ensures.more added c.self.invariant.filtered) in
     record {
       indexed = unmade_indexed (place_of m.table.index) m.table.entries.items c.push.new.self.items c.self.invariant.indexed e pushed (place_of c.insert.new.self) (same_places m.table.index c.insert.new.self c.in_err-insert.ensures.err);
       digits = c.self.invariant.digits;
       small = c.self.invariant.small;
-      store = store_empty (setting_of m.bytes.items (record { entries = c.push.new.self; index = c.insert.new.self })) c.grow.new.self
-          (omega (arith, c.self.invariant.store.seats, ap length c.forget.ensures.seats, c.in_ok-grow.ensures.seats, ap length pushed, size))
-          (omega (arith, c.self.invariant.store.spots, ap length c.forget.ensures.spots, c.in_ok-grow.ensures.spots, ap length pushed, size)) (c.grow.ensures.kept ∙ c.forget.ensures.kept);
+      store = store_after c.may_have.result (setting_of m.bytes.items m.table) (setting_of m.bytes.items (record { entries = c.push.new.self; index = c.insert.new.self })) m.expander c.grow.new.self
+          (λ met. c.grow.ensures.kept ∙ c.forget_where.ensures.all met) (λ free. (c.grow.ensures.kept ∙ (c.forget_where.ensures.none free).0, c.grow.ensures.tokens ∙ (c.forget_where.ensures.none free).1))
+          (omega (arith, c.self.invariant.store.seats, ap length c.forget_where.ensures.seats, c.in_ok-grow.ensures.seats, size))
+          (omega (arith, c.self.invariant.store.spots, ap length c.forget_where.ensures.spots, c.in_ok-grow.ensures.spots, size)) (omega (arith, size))
+          (λ i. c.grow.ensures.same_spots i ∙ ap (λ spots. get_or spots i 0) c.forget_where.ensures.spots)
+          (λ free. carries_unmade m.bytes.items (place_of m.table.index) m.table.entries.items c.push.new.self.items c.self.invariant.indexed e pushed (place_of c.insert.new.self) (same_places m.table.index c.insert.new.self c.in_err-insert.ensures.err)) c.self.invariant.store;
+      filtered = filtered;
     }
 
 pub returns-in_err-insert-clause-err : goal.returns-in_err-insert-clause-err
@@ -35,15 +83,28 @@ invariant_of-self-2 c =
     let m = c.self.inside in
     let e : Entry = record { name = c.in_ok-from_slice.field-0; body = c.in_ok-from_slice-2.field-0 } in
     let pushed = c.in_ok-push.ensures.items in
-    let size = length-append m.table.entries.items (e ∷ []) in
+    let size = ap length pushed ∙ length-append m.table.entries.items (e ∷ []) in
+    let filter = c.add_all.new.self.slots.items in
+    let added : AreIn filter m.bytes.items e.body.items =
+    subst (λ ts. AreIn filter m.bytes.items ts) (sym c.in_ok-from_slice-2.ensures.items) (subst (λ bs. AreIn filter bs c.args.body.now) c.deref.ensures.value c.add_all.ensures.added) in
+    let filtered : (place : ℕ) → AreIn filter m.bytes.items (body_at c.push.new.self.items place) =
+    subst (λ es. (place : ℕ) → AreIn filter m.bytes.items (body_at es place)) (sym pushed) (filtered_push m.names.slots.items filter m.bytes.items m.table.entries.items e c.add_all.ensures.more added c.self.invariant.filtered) in
     let changes = changed_by m.table.index c.insert.new.self c.in_ok-key.key.items (Some c.len-place.result) c.in_ok-insert.ensures.updates in
+    let last : c.len-place.result ≡ length m.table.entries.items = c.len-place.ensures ∙ m.table.entries.ok.0 in
+    let absent : macro_of (defined_of (place_of m.table.index) m.table.entries.items) c.in_ok-key.key.items ≡ None = ap (λ d. macro_of d.macros c.in_ok-key.key.items) c.self.view_is ∙ ap (macro_of c.args.self.now.macros) c.in_ok-key.ensures.items ∙ c.requires in
     record {
-      indexed = made_indexed (place_of m.table.index) m.table.entries.items c.push.new.self.items c.self.invariant.indexed e pushed (place_of c.insert.new.self) c.in_ok-key.key.items (c.in_ok-key.ensures.items ∙ sym c.in_ok-from_slice.ensures.items) c.len-place.result (c.len-place.ensures ∙ m.table.entries.ok.0) changes;
+      indexed = made_indexed (place_of m.table.index) m.table.entries.items c.push.new.self.items c.self.invariant.indexed e pushed (place_of c.insert.new.self) c.in_ok-key.key.items (c.in_ok-key.ensures.items ∙ sym c.in_ok-from_slice.ensures.items) c.len-place.result last changes;
       digits = c.self.invariant.digits;
       small = c.self.invariant.small;
-      store = store_empty (setting_of m.bytes.items (record { entries = c.push.new.self; index = c.insert.new.self })) c.grow.new.self
-          (omega (arith, c.self.invariant.store.seats, ap length c.forget.ensures.seats, c.in_ok-grow.ensures.seats, ap length pushed, size))
-          (omega (arith, c.self.invariant.store.spots, ap length c.forget.ensures.spots, c.in_ok-grow.ensures.spots, ap length pushed, size)) (c.grow.ensures.kept ∙ c.forget.ensures.kept);
+      store = store_after c.may_have.result (setting_of m.bytes.items m.table) (setting_of m.bytes.items (record { entries = c.push.new.self; index = c.insert.new.self })) m.expander c.grow.new.self
+          (λ met. c.grow.ensures.kept ∙ c.forget_where.ensures.all met) (λ free. (c.grow.ensures.kept ∙ (c.forget_where.ensures.none free).0, c.grow.ensures.tokens ∙ (c.forget_where.ensures.none free).1))
+          (omega (arith, c.self.invariant.store.seats, ap length c.forget_where.ensures.seats, c.in_ok-grow.ensures.seats, size))
+          (omega (arith, c.self.invariant.store.spots, ap length c.forget_where.ensures.spots, c.in_ok-grow.ensures.spots, size)) (omega (arith, size))
+          (λ i. c.grow.ensures.same_spots i ∙ ap (λ spots. get_or spots i 0) c.forget_where.ensures.spots)
+          (λ free. carries_made m.bytes.items (place_of m.table.index) m.table.entries.items c.push.new.self.items c.self.invariant.indexed e pushed (place_of c.insert.new.self) c.in_ok-key.key.items
+          (subst (λ n. Changes (place_of m.table.index) (place_of c.insert.new.self) c.in_ok-key.key.items (Some n)) last changes) m.names.slots.items (ap (may_have m.names.slots.items) c.in_ok-key.ensures.items ∙ sym c.may_have.ensures ∙ free) c.self.invariant.filtered
+          (then_absent (place_of m.table.index) m.table.entries.items c.self.invariant.indexed c.in_ok-key.key.items absent)) c.self.invariant.store;
+      filtered = filtered;
     }
 
 pub returns-clause-ok : goal.returns-clause-ok

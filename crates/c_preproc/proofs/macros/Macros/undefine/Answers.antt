@@ -14,6 +14,7 @@ invariant_of-self c =
       indexed = indexed_less (place_of m.table.index) m.table.entries.items c.self.invariant.indexed (place_of c.remove.new.self) c.text_of.result.now changes;
       digits = c.self.invariant.digits;
       small = c.self.invariant.small;
+      filtered = c.self.invariant.filtered;
       store = store_empty (setting_of m.bytes.items (record { entries = m.table.entries; index = c.remove.new.self })) c.forget.new.self
           (omega (arith, c.self.invariant.store.seats, ap length c.forget.ensures.seats)) (omega (arith, c.self.invariant.store.spots, ap length c.forget.ensures.spots)) c.forget.ensures.kept;
     }
