@@ -234,7 +234,8 @@ fn choice<'a>(
     basic: Option<CType>,
     whole: Option<&'a Specifier>,
 ) -> Option<TypeSpecifier<'a>>
-    ensures { option_map named_in result ≡ named_among wholes no_word basic (option_copied whole.entry) }
+    ensures { option_map named_in result
+        ≡ named_among wholes no_word basic (option_copied whole.entry) }
 {
     if wholes == 0 {
         return match basic {
