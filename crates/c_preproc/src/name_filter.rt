@@ -8,7 +8,7 @@ use c_lexer::Token;
 use std::alloc::{AllocError, Global};
 
 /// The number of slots.
-const SLOTS: usize = 16_384;
+const SLOTS: usize = 262_144;
 
 /// Whether a name of each slot was put in.
 #[derive(Drop)]

@@ -6,7 +6,7 @@ use Rattle.c_preproc.specs.Texts.{is_name, text_of}
 
 abbrev pub slot_from : ℕ → List ℕ → ℕ
 slot_from slot [] = slot
-slot_from slot (b ∷ name) = slot_from ((slot * 31 + b) % 16384) name
+slot_from slot (b ∷ name) = slot_from ((slot * 31 + b) % 262144) name
 
 abbrev pub slot_of : List ℕ → ℕ
 slot_of name = slot_from 0 name
