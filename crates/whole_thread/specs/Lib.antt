@@ -1,0 +1,4 @@
+pub mod Standing
+pub mod Act
+pub mod CodePlay
+pub mod Worked
