@@ -6,3 +6,4 @@ pub mod Pointers
 pub mod Rounds
 pub mod Intrinsics
 pub mod Calls
+pub mod Walks

@@ -18,6 +18,12 @@ ghost use Rattle.whole_thread.specs.Worked.Calls.{MainExits, ThreadEnds, CodeIsC
 ghost use Rattle.whole_thread.specs.Worked.Calls.{ArgumentsArePassed, PointersAreCalled};
 ghost use Rattle.whole_thread.specs.Worked.Calls.{DepthIsReached, DepthIsPassed};
 ghost use Rattle.whole_thread.specs.Worked.Calls.{TrapsHaveLines, FirstFunctionHasItsLine};
+ghost use Rattle.whole_thread.specs.Worked.Walks.{LoadWalks, StoreWalks, LockWalks, ExchangeWalks};
+ghost use Rattle.whole_thread.specs.Worked.Walks.{NamesWalk, RefusalWalks, CallsWalk, PollWalks};
+ghost use Rattle.whole_thread.specs.PlaysOn.{GrantedFollows, StoredFollows, FoundFollows, ReadFollows};
+ghost use Rattle.whole_thread.specs.PlaysOn.{MatchFollows, SecondFollows, TrapFollows, BeforeFollows};
+ghost use Rattle.whole_thread.specs.PlaysOn.{LockRoundFollows, ExchangeRoundFollows, StepFollows};
+ghost use Rattle.whole_thread.specs.PlaysOn.{PollFollows, BeginFollows};
 
 /// Registers are set without an event, and a poll makes none.
 pub fn registers_are_set()
@@ -102,4 +108,41 @@ pub fn functions_are_called()
 pub fn traps_have_lines()
     ensures lines { TrapsHaveLines }
     ensures first { FirstFunctionHasItsLine }
+{}
+
+/// A thread as data wants an instruction's events one after another.
+pub fn threads_walk_from_event_to_event()
+    ensures load { LoadWalks }
+    ensures store { StoreWalks }
+    ensures lock { LockWalks }
+    ensures exchange { ExchangeWalks }
+    ensures names { NamesWalk }
+    ensures refusal { RefusalWalks }
+    ensures calls { CallsWalk }
+    ensures poll { PollWalks }
+{}
+
+/// Within an instruction a thread wants what the play of its code asks, and goes on as that does.
+pub fn threads_follow_within_an_instruction()
+    ensures granted { GrantedFollows }
+    ensures stored { StoredFollows }
+    ensures found { FoundFollows }
+    ensures read { ReadFollows }
+    ensures matches { MatchFollows }
+    ensures second { SecondFollows }
+    ensures trap { TrapFollows }
+{}
+
+/// So it does before an instruction, and in each further round of one.
+pub fn threads_follow_before_an_instruction()
+    ensures before { BeforeFollows }
+    ensures lock { LockRoundFollows }
+    ensures exchange { ExchangeRoundFollows }
+{}
+
+/// An instruction on registers is a step of the play; so is a poll, and a beginning is its start.
+pub fn threads_follow_by_steps()
+    ensures step { StepFollows }
+    ensures poll { PollFollows }
+    ensures begin { BeginFollows }
 {}
