@@ -161,7 +161,7 @@ impl<'a> Cursor<'a> {
     }
 
     /// How many tokens are left.
-    pub fn left(&self) -> usize
+    pub fn remaining(&self) -> usize
         ensures { result ≡ length self.now.rest }
     {
         self.tokens.len() - self.place as usize

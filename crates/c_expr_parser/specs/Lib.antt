@@ -1,3 +1,4 @@
+pub mod Reads
 pub mod Opened
 pub mod Nests
 pub mod Refusals

@@ -1,21 +1,22 @@
 //! Specifiers and declarators: what a type name, a member and a parameter consist of.
 
 ghost use Rattle.std.specs.Prelude.{◌≡◌};
-ghost use Rattle.c_cursor.specs.Input.{Gives, answer};
 ghost use Rattle.c_parts.specs.Production as production;
 ghost use Rattle.c_parts.specs.Production.{◌&◌, sign};
 ghost use Rattle.c_parts.specs.declared.terminal.Terminal.TheVariants as terminal;
 ghost use Rattle.c_syntax.specs.Grammar as spec;
+ghost use Rattle.c_syntax.specs.Grammar.{inner};
 ghost use Rattle.c_syntax.specs.Values as values;
+ghost use Rattle.c_expr_parser.specs.Reads.{Reads};
 ghost use Rattle.c_expr_parser.specs.Nests.{Nests};
 
 use crate::grammar::Grammar;
-use crate::nodes::{declarator, declare_name, is_type, is_typedef, keep, listed};
+use crate::nodes::{declarator, declare_name, is_type, is_typedef, keep, list_of};
 use crate::opened::{Opened, What};
+use crate::pointers::{pointer, pointers};
 use crate::sets::{
     ABSTRACT_INSIDE, ANY_NAME, BASIC_WORDS, DECLARED_NAME, EXPRESSION_STARTS, MEMBERS,
-    PARAMETER_CORE, PARAMETER_INSIDE, QUALIFIER_WORDS, QUALIFIERS, SPECIFIED, SPECIFIERS,
-    STORAGE_WORDS,
+    PARAMETER_CORE, PARAMETER_INSIDE, QUALIFIER_WORDS, SPECIFIED, SPECIFIERS, STORAGE_WORDS,
 };
 use c_cursor::{Cursor, Fault};
 use c_parts::{Binding, Terminal};
@@ -27,57 +28,9 @@ use c_syntax::{
 use sqlite_items::{Boxed, Items};
 use std::alloc::Global;
 
-/// A qualifier.
-fn qualifier(cursor: &mut Cursor<'_>) -> Result<Qualifier, Fault>
-    ensures { Gives (answer spec.qualifier.read cursor.old) result cursor.new }
-{
-    Ok(qualifier_of(cursor.take(&QUALIFIERS)?.terminal))
-}
-
-/// Any number of qualifiers.
-fn qualifiers(alloc: Global, cursor: &mut Cursor<'_>) -> Result<Items<Qualifier>, Fault>
-    ensures { Gives (answer (production.many spec.qualifier).read cursor.old) result cursor.new }
-{
-    let mut qualifiers = Items::new(alloc);
-    'qualifiers: for _turn in 0..cursor.left() {
-        if !cursor.next_is(&QUALIFIERS) {
-            return Ok(qualifiers);
-        }
-        let one = qualifier(cursor)?;
-        qualifiers.push(one)?;
-    }
-    Ok(qualifiers)
-}
-
-/// `*` with qualifiers.
-fn pointer(alloc: Global, cursor: &mut Cursor<'_>) -> Result<Pointer, Fault>
-    ensures { Gives (answer spec.pointer.read cursor.old) result cursor.new }
-{
-    let start = cursor.start();
-    cursor.sign(Terminal::Star)?;
-    let qualifiers = qualifiers(alloc, cursor)?;
-    let span = cursor.span(start);
-    Ok(Pointer { span, qualifiers })
-}
-
-/// Any number of pointers.
-fn pointers(alloc: Global, cursor: &mut Cursor<'_>) -> Result<Items<Pointer>, Fault>
-    ensures { Gives (answer (production.many spec.pointer).read cursor.old) result cursor.new }
-{
-    let mut pointers = Items::new(alloc);
-    'pointers: for _turn in 0..cursor.left() {
-        if !cursor.next_is(&[Terminal::Star]) {
-            return Ok(pointers);
-        }
-        let one = pointer(alloc, cursor)?;
-        pointers.push(one)?;
-    }
-    Ok(pointers)
-}
-
 /// A name at a declarator's core.
 fn name_core(cursor: &mut Cursor<'_>, names: &[Terminal]) -> Result<Core, Fault>
-    ensures { Gives (answer (spec.named names.now).read cursor.old) result cursor.new }
+    ensures { Reads (spec.named names.now) cursor.old result cursor.new }
 {
     let start = cursor.start();
     let name = cursor.take(names)?.name;
@@ -87,7 +40,7 @@ fn name_core(cursor: &mut Cursor<'_>, names: &[Terminal]) -> Result<Core, Fault>
 
 /// An expression that declares its value's name.
 fn constant_name(cursor: &mut Cursor<'_>) -> Result<u32, Fault>
-    ensures { Gives (answer (production.token spec.any_name values.name_of).read cursor.old) result cursor.new }
+    ensures { Reads (production.token spec.any_name values.name_of) cursor.old result cursor.new }
 {
     Ok(cursor.take(&ANY_NAME)?.name)
 }
@@ -95,11 +48,11 @@ fn constant_name(cursor: &mut Cursor<'_>) -> Result<u32, Fault>
 impl<F: Fn(Global, &mut Cursor<'_>, u32, What) -> Result<Opened, Fault>> Grammar<F> {
     pub fn assertion(&self, cursor: &mut Cursor<'_>) -> Result<Assertion, Fault>
         requires { Nests self.now.room (F.pre self.now.inner) (F.post self.now.inner) }
-        ensures { Gives (answer (spec.assertion (spec.inner self.now.room)).read cursor.old) result cursor.new }
+        ensures { Reads (spec.assertion (inner self.now.room)) cursor.old result cursor.new }
     {
         let start = cursor.start();
         cursor.sign(Terminal::StaticAssert)?;
-        let (condition, text) = self.asserted(cursor)?;
+        let (condition, text) = self.assertion_parts(cursor)?;
         cursor.sign(Terminal::Semicolon)?;
         let span = cursor.span(start);
         Ok(Assertion {
@@ -115,7 +68,7 @@ impl<F: Fn(Global, &mut Cursor<'_>, u32, What) -> Result<Opened, Fault>> Grammar
         cursor: &mut Cursor<'_>,
     ) -> Result<(Option<u32>, Option<Items<Member>>), Fault>
         requires { Nests self.now.room (F.pre self.now.inner) (F.post self.now.inner) }
-        ensures { Gives (answer (spec.record_body (spec.inner self.now.room)).read cursor.old) result cursor.new }
+        ensures { Reads (spec.record_body (inner self.now.room)) cursor.old result cursor.new }
     {
         if !cursor.next_is(&ANY_NAME) {
             return Ok((None, Some(self.members(cursor)?)));
@@ -127,7 +80,7 @@ impl<F: Fn(Global, &mut Cursor<'_>, u32, What) -> Result<Opened, Fault>> Grammar
 
     fn optional_members(&self, cursor: &mut Cursor<'_>) -> Result<Option<Items<Member>>, Fault>
         requires { Nests self.now.room (F.pre self.now.inner) (F.post self.now.inner) }
-        ensures { Gives (answer (spec.optional_members (spec.inner self.now.room)).read cursor.old) result cursor.new }
+        ensures { Reads (spec.optional_members (inner self.now.room)) cursor.old result cursor.new }
     {
         if cursor.next_is(&[Terminal::LeftBrace]) {
             Ok(Some(self.members(cursor)?))
@@ -138,7 +91,7 @@ impl<F: Fn(Global, &mut Cursor<'_>, u32, What) -> Result<Opened, Fault>> Grammar
 
     fn record_type(&self, cursor: &mut Cursor<'_>) -> Result<SpecifierKind, Fault>
         requires { Nests self.now.room (F.pre self.now.inner) (F.post self.now.inner) }
-        ensures { Gives (answer (spec.record_type (spec.inner self.now.room)).read cursor.old) result cursor.new }
+        ensures { Reads (spec.record_type (inner self.now.room)) cursor.old result cursor.new }
     {
         let kind = record_of(cursor.take(&[Terminal::Struct, Terminal::Union])?.terminal);
         let (tag, members) = self.record_body(cursor)?;
@@ -151,7 +104,7 @@ impl<F: Fn(Global, &mut Cursor<'_>, u32, What) -> Result<Opened, Fault>> Grammar
         cursor: &mut Cursor<'_>,
     ) -> Result<(Option<u32>, Option<Items<EnumConstant>>), Fault>
         requires { Nests self.now.room (F.pre self.now.inner) (F.post self.now.inner) }
-        ensures { Gives (answer (spec.enum_body (spec.inner self.now.room)).read cursor.old) result cursor.new }
+        ensures { Reads (spec.enum_body (inner self.now.room)) cursor.old result cursor.new }
     {
         if !cursor.next_is(&ANY_NAME) {
             return Ok((None, Some(self.constants(cursor)?)));
@@ -166,7 +119,8 @@ impl<F: Fn(Global, &mut Cursor<'_>, u32, What) -> Result<Opened, Fault>> Grammar
         cursor: &mut Cursor<'_>,
     ) -> Result<Option<Items<EnumConstant>>, Fault>
         requires { Nests self.now.room (F.pre self.now.inner) (F.post self.now.inner) }
-        ensures { Gives (answer (spec.optional_constants (spec.inner self.now.room)).read cursor.old) result cursor.new }
+        ensures { Reads (spec.optional_constants (inner self.now.room))
+            cursor.old result cursor.new }
     {
         if cursor.next_is(&[Terminal::LeftBrace]) {
             Ok(Some(self.constants(cursor)?))
@@ -177,7 +131,7 @@ impl<F: Fn(Global, &mut Cursor<'_>, u32, What) -> Result<Opened, Fault>> Grammar
 
     fn enum_type(&self, cursor: &mut Cursor<'_>) -> Result<SpecifierKind, Fault>
         requires { Nests self.now.room (F.pre self.now.inner) (F.post self.now.inner) }
-        ensures { Gives (answer (spec.enum_type (spec.inner self.now.room)).read cursor.old) result cursor.new }
+        ensures { Reads (spec.enum_type (inner self.now.room)) cursor.old result cursor.new }
     {
         cursor.sign(Terminal::Enum)?;
         let (tag, constants) = self.enum_body(cursor)?;
@@ -187,7 +141,7 @@ impl<F: Fn(Global, &mut Cursor<'_>, u32, What) -> Result<Opened, Fault>> Grammar
     /// `_Atomic`, with a type in parentheses or alone.
     fn atomic(&self, cursor: &mut Cursor<'_>) -> Result<SpecifierKind, Fault>
         requires { Nests self.now.room (F.pre self.now.inner) (F.post self.now.inner) }
-        ensures { Gives (answer (spec.atomic_type (spec.inner self.now.room)).read cursor.old) result cursor.new }
+        ensures { Reads (spec.atomic_type (inner self.now.room)) cursor.old result cursor.new }
     {
         cursor.sign(Terminal::Atomic)?;
         if cursor.next_is(&[Terminal::AtomicParen]) {
@@ -200,7 +154,7 @@ impl<F: Fn(Global, &mut Cursor<'_>, u32, What) -> Result<Opened, Fault>> Grammar
 
     fn specifier_kind(&self, cursor: &mut Cursor<'_>) -> Result<SpecifierKind, Fault>
         requires { Nests self.now.room (F.pre self.now.inner) (F.post self.now.inner) }
-        ensures { Gives (answer (spec.specifier_kind (spec.inner self.now.room)).read cursor.old) result cursor.new }
+        ensures { Reads (spec.specifier_kind (inner self.now.room)) cursor.old result cursor.new }
     {
         if cursor.next_is(&STORAGE_WORDS) {
             return Ok(SpecifierKind::Storage(storage_of(cursor.take(&STORAGE_WORDS)?.terminal)));
@@ -234,7 +188,7 @@ impl<F: Fn(Global, &mut Cursor<'_>, u32, What) -> Result<Opened, Fault>> Grammar
 
     fn specifier(&self, cursor: &mut Cursor<'_>) -> Result<Specifier, Fault>
         requires { Nests self.now.room (F.pre self.now.inner) (F.post self.now.inner) }
-        ensures { Gives (answer (spec.specifier (spec.inner self.now.room)).read cursor.old) result cursor.new }
+        ensures { Reads (spec.specifier (inner self.now.room)) cursor.old result cursor.new }
     {
         let start = cursor.start();
         let kind = self.specifier_kind(cursor)?;
@@ -246,10 +200,11 @@ impl<F: Fn(Global, &mut Cursor<'_>, u32, What) -> Result<Opened, Fault>> Grammar
     /// Any number of specifiers.
     fn more_specifiers(&self, cursor: &mut Cursor<'_>) -> Result<Items<Specifier>, Fault>
         requires { Nests self.now.room (F.pre self.now.inner) (F.post self.now.inner) }
-        ensures { Gives (answer (production.many (spec.specifier (spec.inner self.now.room))).read cursor.old) result cursor.new }
+        ensures { Reads (production.many (spec.specifier (inner self.now.room)))
+            cursor.old result cursor.new }
     {
         let mut list = Items::new(self.alloc);
-        'list: for _turn in 0..cursor.left() {
+        'list: for _turn in 0..cursor.remaining() {
             if !cursor.next_is(&SPECIFIERS) {
                 return Ok(list);
             }
@@ -262,20 +217,20 @@ impl<F: Fn(Global, &mut Cursor<'_>, u32, What) -> Result<Opened, Fault>> Grammar
     /// Specifiers, at least one.
     pub fn specifiers(&self, cursor: &mut Cursor<'_>) -> Result<Specifiers, Fault>
         requires { Nests self.now.room (F.pre self.now.inner) (F.post self.now.inner) }
-        ensures { Gives (answer (spec.specifiers (spec.inner self.now.room)).read cursor.old) result cursor.new }
+        ensures { Reads (spec.specifiers (inner self.now.room)) cursor.old result cursor.new }
     {
         let start = cursor.start();
         let first = self.specifier(cursor)?;
         let more = self.more_specifiers(cursor)?;
         let span = cursor.span(start);
-        let list = listed(self.alloc, first, more)?;
+        let list = list_of(self.alloc, first, more)?;
         Ok(Specifiers { span, list })
     }
 
     /// `= value`, or nothing.
     fn optional_value(&self, cursor: &mut Cursor<'_>) -> Result<Option<Expr>, Fault>
         requires { Nests self.now.room (F.pre self.now.inner) (F.post self.now.inner) }
-        ensures { Gives (answer (spec.optional_value (spec.inner self.now.room)).read cursor.old) result cursor.new }
+        ensures { Reads (spec.optional_value (inner self.now.room)) cursor.old result cursor.new }
     {
         if cursor.next_is(&[Terminal::Equal]) {
             cursor.sign(Terminal::Equal)?;
@@ -288,7 +243,7 @@ impl<F: Fn(Global, &mut Cursor<'_>, u32, What) -> Result<Opened, Fault>> Grammar
     /// A constant of an enumeration, which is in scope behind it.
     fn constant(&self, cursor: &mut Cursor<'_>) -> Result<EnumConstant, Fault>
         requires { Nests self.now.room (F.pre self.now.inner) (F.post self.now.inner) }
-        ensures { Gives (answer (spec.constant (spec.inner self.now.room)).read cursor.old) result cursor.new }
+        ensures { Reads (spec.constant (inner self.now.room)) cursor.old result cursor.new }
     {
         let start = cursor.start();
         let name = constant_name(cursor)?;
@@ -303,7 +258,7 @@ impl<F: Fn(Global, &mut Cursor<'_>, u32, What) -> Result<Opened, Fault>> Grammar
 
     fn suffix_kind(&self, cursor: &mut Cursor<'_>) -> Result<SuffixKind, Fault>
         requires { Nests self.now.room (F.pre self.now.inner) (F.post self.now.inner) }
-        ensures { Gives (answer (spec.suffix_kind (spec.inner self.now.room)).read cursor.old) result cursor.new }
+        ensures { Reads (spec.suffix_kind (inner self.now.room)) cursor.old result cursor.new }
     {
         if cursor.next_is(&[Terminal::LeftBracket]) {
             return Ok(SuffixKind::Array(self.array(cursor)?));
@@ -314,7 +269,7 @@ impl<F: Fn(Global, &mut Cursor<'_>, u32, What) -> Result<Opened, Fault>> Grammar
 
     fn suffix(&self, cursor: &mut Cursor<'_>) -> Result<Suffix, Fault>
         requires { Nests self.now.room (F.pre self.now.inner) (F.post self.now.inner) }
-        ensures { Gives (answer (spec.suffix_part (spec.inner self.now.room)).read cursor.old) result cursor.new }
+        ensures { Reads (spec.suffix_part (inner self.now.room)) cursor.old result cursor.new }
     {
         let start = cursor.start();
         let kind = self.suffix_kind(cursor)?;
@@ -325,10 +280,11 @@ impl<F: Fn(Global, &mut Cursor<'_>, u32, What) -> Result<Opened, Fault>> Grammar
     /// Any number of suffixes.
     fn suffixes(&self, cursor: &mut Cursor<'_>) -> Result<Items<Suffix>, Fault>
         requires { Nests self.now.room (F.pre self.now.inner) (F.post self.now.inner) }
-        ensures { Gives (answer (production.many (spec.suffix_part (spec.inner self.now.room))).read cursor.old) result cursor.new }
+        ensures { Reads (production.many (spec.suffix_part (inner self.now.room)))
+            cursor.old result cursor.new }
     {
         let mut list = Items::new(self.alloc);
-        'list: for _turn in 0..cursor.left() {
+        'list: for _turn in 0..cursor.remaining() {
             if !cursor.next_is(&[Terminal::LeftBracket, Terminal::LeftParen]) {
                 return Ok(list);
             }
@@ -340,7 +296,7 @@ impl<F: Fn(Global, &mut Cursor<'_>, u32, What) -> Result<Opened, Fault>> Grammar
 
     fn declarator_core(&self, cursor: &mut Cursor<'_>) -> Result<Core, Fault>
         requires { Nests self.now.room (F.pre self.now.inner) (F.post self.now.inner) }
-        ensures { Gives (answer (spec.declarator_core (spec.inner self.now.room)).read cursor.old) result cursor.new }
+        ensures { Reads (spec.declarator_core (inner self.now.room)) cursor.old result cursor.new }
     {
         if cursor.next_is(&DECLARED_NAME) {
             return name_core(cursor, &DECLARED_NAME);
@@ -351,7 +307,7 @@ impl<F: Fn(Global, &mut Cursor<'_>, u32, What) -> Result<Opened, Fault>> Grammar
 
     pub fn declarator(&self, cursor: &mut Cursor<'_>) -> Result<Declarator, Fault>
         requires { Nests self.now.room (F.pre self.now.inner) (F.post self.now.inner) }
-        ensures { Gives (answer (spec.declarator (spec.inner self.now.room)).read cursor.old) result cursor.new }
+        ensures { Reads (spec.declarator (inner self.now.room)) cursor.old result cursor.new }
     {
         let start = cursor.start();
         let pointers = pointers(self.alloc, cursor)?;
@@ -363,17 +319,17 @@ impl<F: Fn(Global, &mut Cursor<'_>, u32, What) -> Result<Opened, Fault>> Grammar
     /// Suffixes, at least one, round nothing.
     fn some_suffixes(&self, cursor: &mut Cursor<'_>) -> Result<(Core, Items<Suffix>), Fault>
         requires { Nests self.now.room (F.pre self.now.inner) (F.post self.now.inner) }
-        ensures { Gives (answer (spec.some_suffixes (spec.inner self.now.room)).read cursor.old) result cursor.new }
+        ensures { Reads (spec.some_suffixes (inner self.now.room)) cursor.old result cursor.new }
     {
         let first = self.suffix(cursor)?;
         let more = self.suffixes(cursor)?;
-        Ok((Core::Nothing, listed(self.alloc, first, more)?))
+        Ok((Core::Nothing, list_of(self.alloc, first, more)?))
     }
 
     /// `( abstract )` and suffixes.
     fn round_abstract(&self, cursor: &mut Cursor<'_>) -> Result<(Core, Items<Suffix>), Fault>
         requires { Nests self.now.room (F.pre self.now.inner) (F.post self.now.inner) }
-        ensures { Gives (answer (spec.round_abstract (spec.inner self.now.room)).read cursor.old) result cursor.new }
+        ensures { Reads (spec.round_abstract (inner self.now.room)) cursor.old result cursor.new }
     {
         let inner = self.abstract_parens(cursor)?;
         let core = Core::Parens(Boxed::new(self.alloc, inner)?);
@@ -383,7 +339,7 @@ impl<F: Fn(Global, &mut Cursor<'_>, u32, What) -> Result<Opened, Fault>> Grammar
 
     fn abstract_core(&self, cursor: &mut Cursor<'_>) -> Result<(Core, Items<Suffix>), Fault>
         requires { Nests self.now.room (F.pre self.now.inner) (F.post self.now.inner) }
-        ensures { Gives (answer (spec.abstract_core (spec.inner self.now.room)).read cursor.old) result cursor.new }
+        ensures { Reads (spec.abstract_core (inner self.now.room)) cursor.old result cursor.new }
     {
         if cursor.next_two_are(&[Terminal::LeftParen], &ABSTRACT_INSIDE) {
             self.round_abstract(cursor)
@@ -394,7 +350,7 @@ impl<F: Fn(Global, &mut Cursor<'_>, u32, What) -> Result<Opened, Fault>> Grammar
 
     fn abstract_tail(&self, cursor: &mut Cursor<'_>) -> Result<(Core, Items<Suffix>), Fault>
         requires { Nests self.now.room (F.pre self.now.inner) (F.post self.now.inner) }
-        ensures { Gives (answer (spec.abstract_tail (spec.inner self.now.room)).read cursor.old) result cursor.new }
+        ensures { Reads (spec.abstract_tail (inner self.now.room)) cursor.old result cursor.new }
     {
         if cursor.next_is(&[Terminal::LeftBracket, Terminal::LeftParen]) {
             self.abstract_core(cursor)
@@ -405,7 +361,7 @@ impl<F: Fn(Global, &mut Cursor<'_>, u32, What) -> Result<Opened, Fault>> Grammar
 
     pub fn abstract_declarator(&self, cursor: &mut Cursor<'_>) -> Result<Declarator, Fault>
         requires { Nests self.now.room (F.pre self.now.inner) (F.post self.now.inner) }
-        ensures { Gives (answer (spec.abstract (spec.inner self.now.room)).read cursor.old) result cursor.new }
+        ensures { Reads (spec.abstract (inner self.now.room)) cursor.old result cursor.new }
     {
         let start = cursor.start();
         let pointers = pointers(self.alloc, cursor)?;
@@ -418,7 +374,8 @@ impl<F: Fn(Global, &mut Cursor<'_>, u32, What) -> Result<Opened, Fault>> Grammar
         cursor: &mut Cursor<'_>,
     ) -> Result<(Items<Pointer>, (Core, Items<Suffix>)), Fault>
         requires { Nests self.now.room (F.pre self.now.inner) (F.post self.now.inner) }
-        ensures { Gives (answer (spec.some_abstract_parts (spec.inner self.now.room)).read cursor.old) result cursor.new }
+        ensures { Reads (spec.some_abstract_parts (inner self.now.room))
+            cursor.old result cursor.new }
     {
         if !cursor.next_is(&[Terminal::Star]) {
             let tail = self.abstract_core(cursor)?;
@@ -427,13 +384,13 @@ impl<F: Fn(Global, &mut Cursor<'_>, u32, What) -> Result<Opened, Fault>> Grammar
         let first = pointer(self.alloc, cursor)?;
         let more = pointers(self.alloc, cursor)?;
         let tail = self.abstract_tail(cursor)?;
-        Ok((listed(self.alloc, first, more)?, tail))
+        Ok((list_of(self.alloc, first, more)?, tail))
     }
 
     /// An abstract declarator that isn't empty.
     pub fn some_abstract(&self, cursor: &mut Cursor<'_>) -> Result<Declarator, Fault>
         requires { Nests self.now.room (F.pre self.now.inner) (F.post self.now.inner) }
-        ensures { Gives (answer (spec.some_abstract (spec.inner self.now.room)).read cursor.old) result cursor.new }
+        ensures { Reads (spec.some_abstract (inner self.now.room)) cursor.old result cursor.new }
     {
         let start = cursor.start();
         let (pointers, (core, suffixes)) = self.some_abstract_parts(cursor)?;
@@ -443,7 +400,7 @@ impl<F: Fn(Global, &mut Cursor<'_>, u32, What) -> Result<Opened, Fault>> Grammar
     /// `( declarator or abstract )` and suffixes.
     fn round_parameter(&self, cursor: &mut Cursor<'_>) -> Result<(Core, Items<Suffix>), Fault>
         requires { Nests self.now.room (F.pre self.now.inner) (F.post self.now.inner) }
-        ensures { Gives (answer (spec.round_parameter (spec.inner self.now.room)).read cursor.old) result cursor.new }
+        ensures { Reads (spec.round_parameter (inner self.now.room)) cursor.old result cursor.new }
     {
         let inner = self.parameter_parens(cursor)?;
         let core = Core::Parens(Boxed::new(self.alloc, inner)?);
@@ -453,7 +410,7 @@ impl<F: Fn(Global, &mut Cursor<'_>, u32, What) -> Result<Opened, Fault>> Grammar
 
     fn parameter_core(&self, cursor: &mut Cursor<'_>) -> Result<(Core, Items<Suffix>), Fault>
         requires { Nests self.now.room (F.pre self.now.inner) (F.post self.now.inner) }
-        ensures { Gives (answer (spec.parameter_core (spec.inner self.now.room)).read cursor.old) result cursor.new }
+        ensures { Reads (spec.parameter_core (inner self.now.room)) cursor.old result cursor.new }
     {
         if cursor.next_two_are(&[Terminal::LeftParen], &PARAMETER_INSIDE) {
             self.round_parameter(cursor)
@@ -469,7 +426,8 @@ impl<F: Fn(Global, &mut Cursor<'_>, u32, What) -> Result<Opened, Fault>> Grammar
         names: &[Terminal],
     ) -> Result<(Core, Items<Suffix>), Fault>
         requires { Nests self.now.room (F.pre self.now.inner) (F.post self.now.inner) }
-        ensures { Gives (answer (spec.named_core names.now (spec.inner self.now.room)).read cursor.old) result cursor.new }
+        ensures { Reads (spec.named_core names.now (inner self.now.room))
+            cursor.old result cursor.new }
     {
         if !cursor.next_is(names) {
             return self.parameter_core(cursor);
@@ -481,7 +439,7 @@ impl<F: Fn(Global, &mut Cursor<'_>, u32, What) -> Result<Opened, Fault>> Grammar
 
     fn parameter_tail(&self, cursor: &mut Cursor<'_>) -> Result<(Core, Items<Suffix>), Fault>
         requires { Nests self.now.room (F.pre self.now.inner) (F.post self.now.inner) }
-        ensures { Gives (answer (spec.parameter_tail (spec.inner self.now.room)).read cursor.old) result cursor.new }
+        ensures { Reads (spec.parameter_tail (inner self.now.room)) cursor.old result cursor.new }
     {
         if cursor.next_is(&PARAMETER_CORE) {
             self.named_core(cursor, &DECLARED_NAME)
@@ -492,7 +450,8 @@ impl<F: Fn(Global, &mut Cursor<'_>, u32, What) -> Result<Opened, Fault>> Grammar
 
     fn parameter_declarator(&self, cursor: &mut Cursor<'_>) -> Result<Declarator, Fault>
         requires { Nests self.now.room (F.pre self.now.inner) (F.post self.now.inner) }
-        ensures { Gives (answer (spec.parameter_declarator (spec.inner self.now.room)).read cursor.old) result cursor.new }
+        ensures { Reads (spec.parameter_declarator (inner self.now.room))
+            cursor.old result cursor.new }
     {
         let start = cursor.start();
         let pointers = pointers(self.alloc, cursor)?;
@@ -505,7 +464,8 @@ impl<F: Fn(Global, &mut Cursor<'_>, u32, What) -> Result<Opened, Fault>> Grammar
         cursor: &mut Cursor<'_>,
     ) -> Result<(Items<Pointer>, (Core, Items<Suffix>)), Fault>
         requires { Nests self.now.room (F.pre self.now.inner) (F.post self.now.inner) }
-        ensures { Gives (answer (spec.inner_parameter_parts (spec.inner self.now.room)).read cursor.old) result cursor.new }
+        ensures { Reads (spec.inner_parameter_parts (inner self.now.room))
+            cursor.old result cursor.new }
     {
         if !cursor.next_is(&[Terminal::Star]) {
             let tail = self.named_core(cursor, &[Terminal::Name])?;
@@ -514,13 +474,13 @@ impl<F: Fn(Global, &mut Cursor<'_>, u32, What) -> Result<Opened, Fault>> Grammar
         let first = pointer(self.alloc, cursor)?;
         let more = pointers(self.alloc, cursor)?;
         let tail = self.parameter_tail(cursor)?;
-        Ok((listed(self.alloc, first, more)?, tail))
+        Ok((list_of(self.alloc, first, more)?, tail))
     }
 
     /// A parameter's declarator in parentheses, abstract or not.
     pub fn inner_parameter(&self, cursor: &mut Cursor<'_>) -> Result<Declarator, Fault>
         requires { Nests self.now.room (F.pre self.now.inner) (F.post self.now.inner) }
-        ensures { Gives (answer (spec.inner_parameter (spec.inner self.now.room)).read cursor.old) result cursor.new }
+        ensures { Reads (spec.inner_parameter (inner self.now.room)) cursor.old result cursor.new }
     {
         let start = cursor.start();
         let (pointers, (core, suffixes)) = self.inner_parameter_parts(cursor)?;
@@ -530,7 +490,7 @@ impl<F: Fn(Global, &mut Cursor<'_>, u32, What) -> Result<Opened, Fault>> Grammar
     /// Specifiers and a declarator, whose name is in scope behind it.
     fn parameter_parts(&self, cursor: &mut Cursor<'_>) -> Result<(Specifiers, Declarator), Fault>
         requires { Nests self.now.room (F.pre self.now.inner) (F.post self.now.inner) }
-        ensures { Gives (answer (spec.parameter_parts (spec.inner self.now.room)).read cursor.old) result cursor.new }
+        ensures { Reads (spec.parameter_parts (inner self.now.room)) cursor.old result cursor.new }
     {
         let specifiers = self.specifiers(cursor)?;
         let declarator = self.parameter_declarator(cursor)?;
@@ -540,7 +500,7 @@ impl<F: Fn(Global, &mut Cursor<'_>, u32, What) -> Result<Opened, Fault>> Grammar
 
     fn parameter(&self, cursor: &mut Cursor<'_>) -> Result<Parameter, Fault>
         requires { Nests self.now.room (F.pre self.now.inner) (F.post self.now.inner) }
-        ensures { Gives (answer (spec.parameter (spec.inner self.now.room)).read cursor.old) result cursor.new }
+        ensures { Reads (spec.parameter (inner self.now.room)) cursor.old result cursor.new }
     {
         let start = cursor.start();
         let before = cursor.begin_specifiers();
@@ -556,7 +516,8 @@ impl<F: Fn(Global, &mut Cursor<'_>, u32, What) -> Result<Opened, Fault>> Grammar
 
     fn next_parameter(&self, cursor: &mut Cursor<'_>) -> Result<Parameter, Fault>
         requires { Nests self.now.room (F.pre self.now.inner) (F.post self.now.inner) }
-        ensures { Gives (answer (spec.comma_and (spec.parameter (spec.inner self.now.room))).read cursor.old) result cursor.new }
+        ensures { Reads (spec.comma_and (spec.parameter (inner self.now.room)))
+            cursor.old result cursor.new }
     {
         cursor.sign(Terminal::Comma)?;
         self.parameter(cursor)
@@ -565,10 +526,11 @@ impl<F: Fn(Global, &mut Cursor<'_>, u32, What) -> Result<Opened, Fault>> Grammar
     /// `, parameter`, any number.
     fn more_parameters(&self, cursor: &mut Cursor<'_>) -> Result<Items<Parameter>, Fault>
         requires { Nests self.now.room (F.pre self.now.inner) (F.post self.now.inner) }
-        ensures { Gives (answer (spec.commas (spec.parameter (spec.inner self.now.room))).read cursor.old) result cursor.new }
+        ensures { Reads (spec.commas (spec.parameter (inner self.now.room)))
+            cursor.old result cursor.new }
     {
         let mut more = Items::new(self.alloc);
-        'more: for _turn in 0..cursor.left() {
+        'more: for _turn in 0..cursor.remaining() {
             if !cursor.next_is(&[Terminal::Comma]) {
                 return Ok(more);
             }
@@ -580,16 +542,18 @@ impl<F: Fn(Global, &mut Cursor<'_>, u32, What) -> Result<Opened, Fault>> Grammar
 
     fn parameters(&self, cursor: &mut Cursor<'_>) -> Result<Items<Parameter>, Fault>
         requires { Nests self.now.room (F.pre self.now.inner) (F.post self.now.inner) }
-        ensures { Gives (answer (spec.parameters (spec.inner self.now.room)).read cursor.old) result cursor.new }
+        ensures { Reads (spec.parameters (inner self.now.room)) cursor.old result cursor.new }
     {
         let first = self.parameter(cursor)?;
         let more = self.more_parameters(cursor)?;
-        Ok(listed(self.alloc, first, more)?)
+        Ok(list_of(self.alloc, first, more)?)
     }
 
     fn typename_parts(&self, cursor: &mut Cursor<'_>) -> Result<(Specifiers, Declarator), Fault>
         requires { Nests self.now.room (F.pre self.now.inner) (F.post self.now.inner) }
-        ensures { Gives (answer (spec.specifiers (spec.inner self.now.room) & spec.abstract (spec.inner self.now.room)).read cursor.old) result cursor.new }
+        ensures { Reads (spec.specifiers (inner self.now.room)
+            & spec.abstract (inner self.now.room))
+            cursor.old result cursor.new }
     {
         let specifiers = self.specifiers(cursor)?;
         let declarator = self.abstract_declarator(cursor)?;
@@ -599,7 +563,7 @@ impl<F: Fn(Global, &mut Cursor<'_>, u32, What) -> Result<Opened, Fault>> Grammar
     /// Specifiers and an abstract declarator.
     pub fn typename(&self, cursor: &mut Cursor<'_>) -> Result<TypeName, Fault>
         requires { Nests self.now.room (F.pre self.now.inner) (F.post self.now.inner) }
-        ensures { Gives (answer (spec.typename (spec.inner self.now.room)).read cursor.old) result cursor.new }
+        ensures { Reads (spec.typename (inner self.now.room)) cursor.old result cursor.new }
     {
         let start = cursor.start();
         let before = cursor.begin_specifiers();
@@ -615,7 +579,8 @@ impl<F: Fn(Global, &mut Cursor<'_>, u32, What) -> Result<Opened, Fault>> Grammar
 
     fn next_declarator(&self, cursor: &mut Cursor<'_>) -> Result<Declarator, Fault>
         requires { Nests self.now.room (F.pre self.now.inner) (F.post self.now.inner) }
-        ensures { Gives (answer (spec.comma_and (spec.declarator (spec.inner self.now.room))).read cursor.old) result cursor.new }
+        ensures { Reads (spec.comma_and (spec.declarator (inner self.now.room)))
+            cursor.old result cursor.new }
     {
         cursor.sign(Terminal::Comma)?;
         self.declarator(cursor)
@@ -624,10 +589,11 @@ impl<F: Fn(Global, &mut Cursor<'_>, u32, What) -> Result<Opened, Fault>> Grammar
     /// `, declarator`, any number.
     fn more_declarators(&self, cursor: &mut Cursor<'_>) -> Result<Items<Declarator>, Fault>
         requires { Nests self.now.room (F.pre self.now.inner) (F.post self.now.inner) }
-        ensures { Gives (answer (spec.commas (spec.declarator (spec.inner self.now.room))).read cursor.old) result cursor.new }
+        ensures { Reads (spec.commas (spec.declarator (inner self.now.room)))
+            cursor.old result cursor.new }
     {
         let mut more = Items::new(self.alloc);
-        'more: for _turn in 0..cursor.left() {
+        'more: for _turn in 0..cursor.remaining() {
             if !cursor.next_is(&[Terminal::Comma]) {
                 return Ok(more);
             }
@@ -640,11 +606,12 @@ impl<F: Fn(Global, &mut Cursor<'_>, u32, What) -> Result<Opened, Fault>> Grammar
     /// The declarators of a member, at least one.
     fn member_declarators(&self, cursor: &mut Cursor<'_>) -> Result<Items<Declarator>, Fault>
         requires { Nests self.now.room (F.pre self.now.inner) (F.post self.now.inner) }
-        ensures { Gives (answer (spec.member_declarators (spec.inner self.now.room)).read cursor.old) result cursor.new }
+        ensures { Reads (spec.member_declarators (inner self.now.room))
+            cursor.old result cursor.new }
     {
         let first = self.declarator(cursor)?;
         let more = self.more_declarators(cursor)?;
-        Ok(listed(self.alloc, first, more)?)
+        Ok(list_of(self.alloc, first, more)?)
     }
 
     fn member_parts(
@@ -652,7 +619,9 @@ impl<F: Fn(Global, &mut Cursor<'_>, u32, What) -> Result<Opened, Fault>> Grammar
         cursor: &mut Cursor<'_>,
     ) -> Result<(Specifiers, (Items<Declarator>, ())), Fault>
         requires { Nests self.now.room (F.pre self.now.inner) (F.post self.now.inner) }
-        ensures { Gives (answer (spec.specifiers (spec.inner self.now.room) & (spec.member_declarators (spec.inner self.now.room) & sign terminal.Semicolon)).read cursor.old) result cursor.new }
+        ensures { Reads (spec.specifiers (inner self.now.room)
+            & (spec.member_declarators (inner self.now.room) & sign terminal.Semicolon))
+            cursor.old result cursor.new }
     {
         let specifiers = self.specifiers(cursor)?;
         let declarators = self.member_declarators(cursor)?;
@@ -662,7 +631,7 @@ impl<F: Fn(Global, &mut Cursor<'_>, u32, What) -> Result<Opened, Fault>> Grammar
 
     fn declaring_member(&self, cursor: &mut Cursor<'_>) -> Result<Member, Fault>
         requires { Nests self.now.room (F.pre self.now.inner) (F.post self.now.inner) }
-        ensures { Gives (answer (spec.declaring_member (spec.inner self.now.room)).read cursor.old) result cursor.new }
+        ensures { Reads (spec.declaring_member (inner self.now.room)) cursor.old result cursor.new }
     {
         let start = cursor.start();
         let before = cursor.begin_specifiers();
@@ -678,7 +647,7 @@ impl<F: Fn(Global, &mut Cursor<'_>, u32, What) -> Result<Opened, Fault>> Grammar
 
     fn member(&self, cursor: &mut Cursor<'_>) -> Result<Member, Fault>
         requires { Nests self.now.room (F.pre self.now.inner) (F.post self.now.inner) }
-        ensures { Gives (answer (spec.member (spec.inner self.now.room)).read cursor.old) result cursor.new }
+        ensures { Reads (spec.member (inner self.now.room)) cursor.old result cursor.new }
     {
         if cursor.next_is(&SPECIFIED) {
             return self.declaring_member(cursor);
@@ -689,10 +658,11 @@ impl<F: Fn(Global, &mut Cursor<'_>, u32, What) -> Result<Opened, Fault>> Grammar
     /// Any number of members.
     fn more_members(&self, cursor: &mut Cursor<'_>) -> Result<Items<Member>, Fault>
         requires { Nests self.now.room (F.pre self.now.inner) (F.post self.now.inner) }
-        ensures { Gives (answer (production.many (spec.member (spec.inner self.now.room))).read cursor.old) result cursor.new }
+        ensures { Reads (production.many (spec.member (inner self.now.room)))
+            cursor.old result cursor.new }
     {
         let mut more = Items::new(self.alloc);
-        'more: for _turn in 0..cursor.left() {
+        'more: for _turn in 0..cursor.remaining() {
             if !cursor.next_is(&MEMBERS) {
                 return Ok(more);
             }
@@ -704,7 +674,8 @@ impl<F: Fn(Global, &mut Cursor<'_>, u32, What) -> Result<Opened, Fault>> Grammar
 
     fn optional_constant(&self, cursor: &mut Cursor<'_>) -> Result<Option<EnumConstant>, Fault>
         requires { Nests self.now.room (F.pre self.now.inner) (F.post self.now.inner) }
-        ensures { Gives (answer (spec.optional_constant (spec.inner self.now.room)).read cursor.old) result cursor.new }
+        ensures { Reads (spec.optional_constant (inner self.now.room))
+            cursor.old result cursor.new }
     {
         if cursor.next_is(&ANY_NAME) {
             Ok(Some(self.constant(cursor)?))
@@ -715,7 +686,8 @@ impl<F: Fn(Global, &mut Cursor<'_>, u32, What) -> Result<Opened, Fault>> Grammar
 
     fn next_constant(&self, cursor: &mut Cursor<'_>) -> Result<Option<EnumConstant>, Fault>
         requires { Nests self.now.room (F.pre self.now.inner) (F.post self.now.inner) }
-        ensures { Gives (answer (spec.comma_and (spec.optional_constant (spec.inner self.now.room))).read cursor.old) result cursor.new }
+        ensures { Reads (spec.comma_and (spec.optional_constant (inner self.now.room)))
+            cursor.old result cursor.new }
     {
         cursor.sign(Terminal::Comma)?;
         self.optional_constant(cursor)
@@ -724,10 +696,10 @@ impl<F: Fn(Global, &mut Cursor<'_>, u32, What) -> Result<Opened, Fault>> Grammar
     /// `, constant` or `,`, any number; a comma behind a comma is none.
     fn more_constants(&self, cursor: &mut Cursor<'_>) -> Result<Items<EnumConstant>, Fault>
         requires { Nests self.now.room (F.pre self.now.inner) (F.post self.now.inner) }
-        ensures { Gives (answer (spec.more_constants (spec.inner self.now.room)).read cursor.old) result cursor.new }
+        ensures { Reads (spec.more_constants (inner self.now.room)) cursor.old result cursor.new }
     {
         let mut more = Items::new(self.alloc);
-        'more: for _turn in 0..cursor.left() {
+        'more: for _turn in 0..cursor.remaining() {
             if !cursor.next_is(&[Terminal::Comma]) {
                 return Ok(more);
             }
@@ -740,27 +712,27 @@ impl<F: Fn(Global, &mut Cursor<'_>, u32, What) -> Result<Opened, Fault>> Grammar
     /// Members, at least one.
     pub fn some_members(&self, cursor: &mut Cursor<'_>) -> Result<Items<Member>, Fault>
         requires { Nests self.now.room (F.pre self.now.inner) (F.post self.now.inner) }
-        ensures { Gives (answer (spec.some_members (spec.inner self.now.room)).read cursor.old) result cursor.new }
+        ensures { Reads (spec.some_members (inner self.now.room)) cursor.old result cursor.new }
     {
         let first = self.member(cursor)?;
         let more = self.more_members(cursor)?;
-        Ok(listed(self.alloc, first, more)?)
+        Ok(list_of(self.alloc, first, more)?)
     }
 
     /// Constants, at least one.
     pub fn some_constants(&self, cursor: &mut Cursor<'_>) -> Result<Items<EnumConstant>, Fault>
         requires { Nests self.now.room (F.pre self.now.inner) (F.post self.now.inner) }
-        ensures { Gives (answer (spec.some_constants (spec.inner self.now.room)).read cursor.old) result cursor.new }
+        ensures { Reads (spec.some_constants (inner self.now.room)) cursor.old result cursor.new }
     {
         let first = self.constant(cursor)?;
         let more = self.more_constants(cursor)?;
-        Ok(listed(self.alloc, first, more)?)
+        Ok(list_of(self.alloc, first, more)?)
     }
 
     /// An array's size, which may be missing.
     pub fn optional_size(&self, cursor: &mut Cursor<'_>) -> Result<Option<Expr>, Fault>
         requires { Nests self.now.room (F.pre self.now.inner) (F.post self.now.inner) }
-        ensures { Gives (answer (spec.optional_size (spec.inner self.now.room)).read cursor.old) result cursor.new }
+        ensures { Reads (spec.optional_size (inner self.now.room)) cursor.old result cursor.new }
     {
         if cursor.next_is(&EXPRESSION_STARTS) {
             Ok(Some(self.conditional(cursor)?))
@@ -772,7 +744,8 @@ impl<F: Fn(Global, &mut Cursor<'_>, u32, What) -> Result<Opened, Fault>> Grammar
     /// Parameters, or none.
     fn optional_parameters(&self, cursor: &mut Cursor<'_>) -> Result<Items<Parameter>, Fault>
         requires { Nests self.now.room (F.pre self.now.inner) (F.post self.now.inner) }
-        ensures { Gives (answer (spec.optional_parameters (spec.inner self.now.room)).read cursor.old) result cursor.new }
+        ensures { Reads (spec.optional_parameters (inner self.now.room))
+            cursor.old result cursor.new }
     {
         if cursor.next_is(&SPECIFIED) {
             self.parameters(cursor)
@@ -787,7 +760,8 @@ impl<F: Fn(Global, &mut Cursor<'_>, u32, What) -> Result<Opened, Fault>> Grammar
         cursor: &mut Cursor<'_>,
     ) -> Result<(Items<Parameter>, Items<Binding>), Fault>
         requires { Nests self.now.room (F.pre self.now.inner) (F.post self.now.inner) }
-        ensures { Gives (answer (spec.collected_parameters (spec.inner self.now.room)).read cursor.old) result cursor.new }
+        ensures { Reads (spec.collected_parameters (inner self.now.room))
+            cursor.old result cursor.new }
     {
         cursor.enter()?;
         let parameters = self.optional_parameters(cursor)?;

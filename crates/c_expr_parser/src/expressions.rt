@@ -1,15 +1,16 @@
 //! Expressions: a recursive descent, which goes on by the next token, and behind a parenthesis by the
 //! next two.
 
-ghost use Rattle.c_cursor.specs.Input.{Gives, answer};
 ghost use Rattle.c_parts.specs.Production as production;
 ghost use Rattle.c_syntax.specs.Grammar as spec;
+ghost use Rattle.c_syntax.specs.Grammar.{inner};
 ghost use Rattle.c_syntax.specs.Values as values;
 ghost use Rattle.c_parts.specs.declared.terminal.Terminal.TheVariants as terminal;
+ghost use Rattle.c_expr_parser.specs.Reads.{Reads};
 ghost use Rattle.c_expr_parser.specs.Nests.{Nests};
 
 use crate::grammar::Grammar;
-use crate::nodes::{assign, chain, comma, conditional, is_unary, listed, postfix};
+use crate::nodes::{assign, chain, comma, conditional, is_unary, list_of, postfix};
 use crate::opened::{Opened, What};
 use crate::sets::{
     ANY_NAME, ASSIGNING, EXPRESSION_STARTS, POSTFIX_OPERATORS, PRIMARY_STARTS, SPECIFIER_STARTS,
@@ -23,7 +24,7 @@ use std::alloc::Global;
 
 /// Texts side by side.
 pub fn texts(cursor: &mut Cursor<'_>) -> Result<(), Fault>
-    ensures { Gives (answer spec.texts.read cursor.old) result cursor.new }
+    ensures { Reads spec.texts cursor.old result cursor.new }
 {
     cursor.sign(Terminal::Text)?;
     more_texts(cursor)
@@ -31,7 +32,7 @@ pub fn texts(cursor: &mut Cursor<'_>) -> Result<(), Fault>
 
 /// Where texts side by side stand.
 pub fn text_span(cursor: &mut Cursor<'_>) -> Result<Span, Fault>
-    ensures { Gives (answer spec.text_span.read cursor.old) result cursor.new }
+    ensures { Reads spec.text_span cursor.old result cursor.new }
 {
     let start = cursor.start();
     texts(cursor)?;
@@ -40,9 +41,10 @@ pub fn text_span(cursor: &mut Cursor<'_>) -> Result<Span, Fault>
 
 /// Any number of texts.
 fn more_texts(cursor: &mut Cursor<'_>) -> Result<(), Fault>
-    ensures { Gives (answer (production.made (λ x. tt) (production.many (production.sign terminal.Text))).read cursor.old) result cursor.new }
+    ensures { Reads (production.made (λ x. tt) (production.many (production.sign terminal.Text)))
+        cursor.old result cursor.new }
 {
-    'texts: for _turn in 0..cursor.left() {
+    'texts: for _turn in 0..cursor.remaining() {
         if !cursor.next_is(&[Terminal::Text]) {
             return Ok(());
         }
@@ -54,7 +56,7 @@ fn more_texts(cursor: &mut Cursor<'_>) -> Result<(), Fault>
 impl<F: Fn(Global, &mut Cursor<'_>, u32, What) -> Result<Opened, Fault>> Grammar<F> {
     fn primary_kind(&self, cursor: &mut Cursor<'_>) -> Result<ExprKind, Fault>
         requires { Nests self.now.room (F.pre self.now.inner) (F.post self.now.inner) }
-        ensures { Gives (answer (spec.primary_kind (spec.inner self.now.room)).read cursor.old) result cursor.new }
+        ensures { Reads (spec.primary_kind (inner self.now.room)) cursor.old result cursor.new }
     {
         if cursor.next_is(&[Terminal::Name]) {
             let name = cursor.take(&[Terminal::Name])?.name;
@@ -78,7 +80,7 @@ impl<F: Fn(Global, &mut Cursor<'_>, u32, What) -> Result<Opened, Fault>> Grammar
 
     fn primary(&self, cursor: &mut Cursor<'_>) -> Result<Expr, Fault>
         requires { Nests self.now.room (F.pre self.now.inner) (F.post self.now.inner) }
-        ensures { Gives (answer (spec.primary (spec.inner self.now.room)).read cursor.old) result cursor.new }
+        ensures { Reads (spec.primary (inner self.now.room)) cursor.old result cursor.new }
     {
         let start = cursor.start();
         let kind = self.primary_kind(cursor)?;
@@ -88,7 +90,7 @@ impl<F: Fn(Global, &mut Cursor<'_>, u32, What) -> Result<Opened, Fault>> Grammar
 
     fn postfix_kind(&self, cursor: &mut Cursor<'_>) -> Result<PostfixKind, Fault>
         requires { Nests self.now.room (F.pre self.now.inner) (F.post self.now.inner) }
-        ensures { Gives (answer (spec.postfix_kind (spec.inner self.now.room)).read cursor.old) result cursor.new }
+        ensures { Reads (spec.postfix_kind (inner self.now.room)) cursor.old result cursor.new }
     {
         if cursor.next_is(&[Terminal::LeftBracket]) {
             let index = self.index(cursor)?;
@@ -115,7 +117,7 @@ impl<F: Fn(Global, &mut Cursor<'_>, u32, What) -> Result<Opened, Fault>> Grammar
 
     fn postfix_operator(&self, cursor: &mut Cursor<'_>) -> Result<Postfix, Fault>
         requires { Nests self.now.room (F.pre self.now.inner) (F.post self.now.inner) }
-        ensures { Gives (answer (spec.postfix_operator (spec.inner self.now.room)).read cursor.old) result cursor.new }
+        ensures { Reads (spec.postfix_operator (inner self.now.room)) cursor.old result cursor.new }
     {
         let start = cursor.start();
         let kind = self.postfix_kind(cursor)?;
@@ -125,10 +127,11 @@ impl<F: Fn(Global, &mut Cursor<'_>, u32, What) -> Result<Opened, Fault>> Grammar
 
     fn postfix_operators(&self, cursor: &mut Cursor<'_>) -> Result<Items<Postfix>, Fault>
         requires { Nests self.now.room (F.pre self.now.inner) (F.post self.now.inner) }
-        ensures { Gives (answer (production.many (spec.postfix_operator (spec.inner self.now.room))).read cursor.old) result cursor.new }
+        ensures { Reads (production.many (spec.postfix_operator (inner self.now.room)))
+            cursor.old result cursor.new }
     {
         let mut operators = Items::new(self.alloc);
-        'operators: for _turn in 0..cursor.left() {
+        'operators: for _turn in 0..cursor.remaining() {
             if !cursor.next_is(&POSTFIX_OPERATORS) {
                 return Ok(operators);
             }
@@ -140,7 +143,8 @@ impl<F: Fn(Global, &mut Cursor<'_>, u32, What) -> Result<Opened, Fault>> Grammar
 
     fn postfix_expression(&self, cursor: &mut Cursor<'_>) -> Result<Expr, Fault>
         requires { Nests self.now.room (F.pre self.now.inner) (F.post self.now.inner) }
-        ensures { Gives (answer (spec.postfix_expression (spec.inner self.now.room)).read cursor.old) result cursor.new }
+        ensures { Reads (spec.postfix_expression (inner self.now.room))
+            cursor.old result cursor.new }
     {
         let start = cursor.start();
         let operand = self.primary(cursor)?;
@@ -151,13 +155,13 @@ impl<F: Fn(Global, &mut Cursor<'_>, u32, What) -> Result<Opened, Fault>> Grammar
 
     fn unary(&self, cursor: &mut Cursor<'_>) -> Result<Expr, Fault>
         requires { Nests self.now.room (F.pre self.now.inner) (F.post self.now.inner) }
-        ensures { Gives (answer (spec.unary (spec.inner self.now.room)).read cursor.old) result cursor.new }
+        ensures { Reads (spec.unary (inner self.now.room)) cursor.old result cursor.new }
     {
         if cursor.next_is(&PRIMARY_STARTS) {
             return self.postfix_expression(cursor);
         }
         let start = cursor.start();
-        let kind = self.prefixed(cursor)?;
+        let kind = self.prefix_operand(cursor)?;
         let span = cursor.span(start);
         Ok(Expr { span, kind })
     }
@@ -165,11 +169,11 @@ impl<F: Fn(Global, &mut Cursor<'_>, u32, What) -> Result<Opened, Fault>> Grammar
     /// `( type ) operand`
     fn conversion(&self, cursor: &mut Cursor<'_>) -> Result<Expr, Fault>
         requires { Nests self.now.room (F.pre self.now.inner) (F.post self.now.inner) }
-        ensures { Gives (answer (spec.conversion (spec.inner self.now.room)).read cursor.old) result cursor.new }
+        ensures { Reads (spec.conversion (inner self.now.room)) cursor.old result cursor.new }
     {
         let start = cursor.start();
         let ty = Boxed::new(self.alloc, self.type_parens(cursor)?)?;
-        let operand = Boxed::new(self.alloc, self.converted(cursor)?)?;
+        let operand = Boxed::new(self.alloc, self.cast_operand(cursor)?)?;
         let span = cursor.span(start);
         let kind = ExprKind::Cast { ty, operand };
         Ok(Expr { span, kind })
@@ -177,7 +181,7 @@ impl<F: Fn(Global, &mut Cursor<'_>, u32, What) -> Result<Opened, Fault>> Grammar
 
     pub fn cast(&self, cursor: &mut Cursor<'_>) -> Result<Expr, Fault>
         requires { Nests self.now.room (F.pre self.now.inner) (F.post self.now.inner) }
-        ensures { Gives (answer (spec.cast (spec.inner self.now.room)).read cursor.old) result cursor.new }
+        ensures { Reads (spec.cast (inner self.now.room)) cursor.old result cursor.new }
     {
         if cursor.next_two_are(&[Terminal::LeftParen], &SPECIFIER_STARTS) {
             self.conversion(cursor)
@@ -189,7 +193,7 @@ impl<F: Fn(Global, &mut Cursor<'_>, u32, What) -> Result<Opened, Fault>> Grammar
     /// What `sizeof` stands before: a type in parentheses, or a unary.
     fn sizeof_operand(&self, cursor: &mut Cursor<'_>) -> Result<ExprKind, Fault>
         requires { Nests self.now.room (F.pre self.now.inner) (F.post self.now.inner) }
-        ensures { Gives (answer (spec.sizeof_operand (spec.inner self.now.room)).read cursor.old) result cursor.new }
+        ensures { Reads (spec.sizeof_operand (inner self.now.room)) cursor.old result cursor.new }
     {
         if cursor.next_two_are(&[Terminal::LeftParen], &SPECIFIER_STARTS) {
             let ty = self.type_parens(cursor)?;
@@ -203,7 +207,7 @@ impl<F: Fn(Global, &mut Cursor<'_>, u32, What) -> Result<Opened, Fault>> Grammar
     /// A prefix operator with its operand.
     pub fn prefix_expression(&self, cursor: &mut Cursor<'_>) -> Result<ExprKind, Fault>
         requires { Nests self.now.room (F.pre self.now.inner) (F.post self.now.inner) }
-        ensures { Gives (answer (spec.prefixed (spec.inner self.now.room)).read cursor.old) result cursor.new }
+        ensures { Reads (spec.prefixed (inner self.now.room)) cursor.old result cursor.new }
     {
         if cursor.next_is(&[Terminal::Increment, Terminal::Decrement]) {
             let operator = prefix_of(
@@ -231,7 +235,9 @@ impl<F: Fn(Global, &mut Cursor<'_>, u32, What) -> Result<Opened, Fault>> Grammar
     #[cycle(binary)]
     fn link(&self, cursor: &mut Cursor<'_>, tighter: u32) -> Result<Link, Fault>
         requires { Nests self.now.room (F.pre self.now.inner) (F.post self.now.inner) }
-        ensures { Gives (answer (spec.link (spec.operators_over tighter) (spec.binary tighter (spec.inner self.now.room))).read cursor.old) result cursor.new }
+        ensures { Reads (spec.link (spec.operators_over tighter)
+            (spec.binary tighter (inner self.now.room)))
+            cursor.old result cursor.new }
     {
         let start = cursor.start();
         let operator = operator_of(cursor.take(operators_over(tighter))?.terminal);
@@ -247,10 +253,12 @@ impl<F: Fn(Global, &mut Cursor<'_>, u32, What) -> Result<Opened, Fault>> Grammar
     #[cycle(binary)]
     fn links(&self, cursor: &mut Cursor<'_>, tighter: u32) -> Result<Items<Link>, Fault>
         requires { Nests self.now.room (F.pre self.now.inner) (F.post self.now.inner) }
-        ensures { Gives (answer (production.many (spec.link (spec.operators_over tighter) (spec.binary tighter (spec.inner self.now.room)))).read cursor.old) result cursor.new }
+        ensures { Reads (production.many (spec.link (spec.operators_over tighter)
+            (spec.binary tighter (inner self.now.room))))
+            cursor.old result cursor.new }
     {
         let mut links = Items::new(self.alloc);
-        'links: for _turn in 0..cursor.left() {
+        'links: for _turn in 0..cursor.remaining() {
             if !cursor.next_is(operators_over(tighter)) {
                 return Ok(links);
             }
@@ -263,7 +271,9 @@ impl<F: Fn(Global, &mut Cursor<'_>, u32, What) -> Result<Opened, Fault>> Grammar
     #[cycle(binary)]
     fn level_over(&self, cursor: &mut Cursor<'_>, tighter: u32) -> Result<Expr, Fault>
         requires { Nests self.now.room (F.pre self.now.inner) (F.post self.now.inner) }
-        ensures { Gives (answer (spec.level (spec.operators_over tighter) (spec.binary tighter (spec.inner self.now.room))).read cursor.old) result cursor.new }
+        ensures { Reads (spec.level (spec.operators_over tighter)
+            (spec.binary tighter (inner self.now.room)))
+            cursor.old result cursor.new }
     {
         let start = cursor.start();
         let first = self.binary(cursor, tighter)?;
@@ -277,7 +287,7 @@ impl<F: Fn(Global, &mut Cursor<'_>, u32, What) -> Result<Opened, Fault>> Grammar
     #[tactic(auto, using(crate::proofs::Binary::binary_over))]
     fn binary(&self, cursor: &mut Cursor<'_>, level: u32) -> Result<Expr, Fault>
         requires { Nests self.now.room (F.pre self.now.inner) (F.post self.now.inner) }
-        ensures { Gives (answer (spec.binary level (spec.inner self.now.room)).read cursor.old) result cursor.new }
+        ensures { Reads (spec.binary level (inner self.now.room)) cursor.old result cursor.new }
     {
         if level == 0 {
             self.cast(cursor)
@@ -289,7 +299,7 @@ impl<F: Fn(Global, &mut Cursor<'_>, u32, What) -> Result<Opened, Fault>> Grammar
     /// `? expression : conditional`, or nothing.
     fn optional_choice(&self, cursor: &mut Cursor<'_>) -> Result<Option<(Expr, Expr)>, Fault>
         requires { Nests self.now.room (F.pre self.now.inner) (F.post self.now.inner) }
-        ensures { Gives (answer (spec.optional_choice (spec.inner self.now.room)).read cursor.old) result cursor.new }
+        ensures { Reads (spec.optional_choice (inner self.now.room)) cursor.old result cursor.new }
     {
         if cursor.next_is(&[Terminal::Question]) {
             Ok(Some(self.choice(cursor)?))
@@ -300,7 +310,7 @@ impl<F: Fn(Global, &mut Cursor<'_>, u32, What) -> Result<Opened, Fault>> Grammar
 
     pub fn conditional(&self, cursor: &mut Cursor<'_>) -> Result<Expr, Fault>
         requires { Nests self.now.room (F.pre self.now.inner) (F.post self.now.inner) }
-        ensures { Gives (answer (spec.conditional (spec.inner self.now.room)).read cursor.old) result cursor.new }
+        ensures { Reads (spec.conditional (inner self.now.room)) cursor.old result cursor.new }
     {
         let start = cursor.start();
         let condition = self.binary(cursor, 10)?;
@@ -311,7 +321,7 @@ impl<F: Fn(Global, &mut Cursor<'_>, u32, What) -> Result<Opened, Fault>> Grammar
 
     pub fn assignment(&self, cursor: &mut Cursor<'_>) -> Result<Expr, Fault>
         requires { Nests self.now.room (F.pre self.now.inner) (F.post self.now.inner) }
-        ensures { Gives (answer (spec.assignment (spec.inner self.now.room)).read cursor.old) result cursor.new }
+        ensures { Reads (spec.assignment (inner self.now.room)) cursor.old result cursor.new }
     {
         let target = self.conditional(cursor)?;
         if !is_unary(&target) || !cursor.next_is(&ASSIGNING) {
@@ -324,7 +334,8 @@ impl<F: Fn(Global, &mut Cursor<'_>, u32, What) -> Result<Opened, Fault>> Grammar
 
     fn next_assignment(&self, cursor: &mut Cursor<'_>) -> Result<Expr, Fault>
         requires { Nests self.now.room (F.pre self.now.inner) (F.post self.now.inner) }
-        ensures { Gives (answer (spec.comma_and (spec.assignment (spec.inner self.now.room))).read cursor.old) result cursor.new }
+        ensures { Reads (spec.comma_and (spec.assignment (inner self.now.room)))
+            cursor.old result cursor.new }
     {
         cursor.sign(Terminal::Comma)?;
         self.assignment(cursor)
@@ -332,10 +343,11 @@ impl<F: Fn(Global, &mut Cursor<'_>, u32, What) -> Result<Opened, Fault>> Grammar
 
     fn more_assignments(&self, cursor: &mut Cursor<'_>) -> Result<Items<Expr>, Fault>
         requires { Nests self.now.room (F.pre self.now.inner) (F.post self.now.inner) }
-        ensures { Gives (answer (spec.commas (spec.assignment (spec.inner self.now.room))).read cursor.old) result cursor.new }
+        ensures { Reads (spec.commas (spec.assignment (inner self.now.room)))
+            cursor.old result cursor.new }
     {
         let mut more = Items::new(self.alloc);
-        'more: for _turn in 0..cursor.left() {
+        'more: for _turn in 0..cursor.remaining() {
             if !cursor.next_is(&[Terminal::Comma]) {
                 return Ok(more);
             }
@@ -347,7 +359,7 @@ impl<F: Fn(Global, &mut Cursor<'_>, u32, What) -> Result<Opened, Fault>> Grammar
 
     pub fn expression(&self, cursor: &mut Cursor<'_>) -> Result<Expr, Fault>
         requires { Nests self.now.room (F.pre self.now.inner) (F.post self.now.inner) }
-        ensures { Gives (answer (spec.expression (spec.inner self.now.room)).read cursor.old) result cursor.new }
+        ensures { Reads (spec.expression (inner self.now.room)) cursor.old result cursor.new }
     {
         let start = cursor.start();
         let first = self.assignment(cursor)?;
@@ -358,17 +370,18 @@ impl<F: Fn(Global, &mut Cursor<'_>, u32, What) -> Result<Opened, Fault>> Grammar
 
     pub fn arguments(&self, cursor: &mut Cursor<'_>) -> Result<Items<Expr>, Fault>
         requires { Nests self.now.room (F.pre self.now.inner) (F.post self.now.inner) }
-        ensures { Gives (answer (spec.arguments (spec.inner self.now.room)).read cursor.old) result cursor.new }
+        ensures { Reads (spec.arguments (inner self.now.room)) cursor.old result cursor.new }
     {
         let first = self.assignment(cursor)?;
         let more = self.more_assignments(cursor)?;
-        Ok(listed(self.alloc, first, more)?)
+        Ok(list_of(self.alloc, first, more)?)
     }
 
     /// Arguments, or none.
     pub fn optional_arguments(&self, cursor: &mut Cursor<'_>) -> Result<Items<Expr>, Fault>
         requires { Nests self.now.room (F.pre self.now.inner) (F.post self.now.inner) }
-        ensures { Gives (answer (spec.optional_arguments (spec.inner self.now.room)).read cursor.old) result cursor.new }
+        ensures { Reads (spec.optional_arguments (inner self.now.room))
+            cursor.old result cursor.new }
     {
         if cursor.next_is(&EXPRESSION_STARTS) {
             self.arguments(cursor)

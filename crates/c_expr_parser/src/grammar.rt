@@ -4,6 +4,7 @@
 ghost use Rattle.std.specs.Prelude.{◌≡◌};
 ghost use Rattle.c_cursor.specs.Input.{Gives, answer};
 ghost use Rattle.c_syntax.specs.Grammar as spec;
+ghost use Rattle.c_syntax.specs.Grammar.{inner};
 ghost use Rattle.c_expr_parser.specs.Nests.{Nests};
 ghost use Rattle.c_expr_parser.specs.Opened.{opened_read};
 
@@ -25,7 +26,8 @@ pub struct Grammar<F> {
 impl<F: Fn(Global, &mut Cursor<'_>, u32, What) -> Result<Opened, Fault>> Grammar<F> {
     fn open(&self, cursor: &mut Cursor<'_>, what: What) -> Result<Opened, Fault>
         requires { Nests self.now.room (F.pre self.now.inner) (F.post self.now.inner) }
-        ensures { Gives (answer (opened_read what (spec.inner self.now.room)) cursor.old) result cursor.new }
+        ensures { Gives (answer (opened_read what (inner self.now.room)) cursor.old)
+            result cursor.new }
     {
         (self.inner)(self.alloc, cursor, self.room, what)
     }
@@ -33,7 +35,7 @@ impl<F: Fn(Global, &mut Cursor<'_>, u32, What) -> Result<Opened, Fault>> Grammar
     /// `( expression )`
     pub fn parens(&self, cursor: &mut Cursor<'_>) -> Result<Expr, Fault>
         requires { Nests self.now.room (F.pre self.now.inner) (F.post self.now.inner) }
-        ensures { Gives (answer (spec.inner self.now.room).parens.read cursor.old) result cursor.new }
+        ensures { Gives (answer (inner self.now.room).parens.read cursor.old) result cursor.new }
     {
         match self.open(cursor, What::Parens)? {
             Opened::Expr(opened) => Ok(opened),
@@ -44,7 +46,8 @@ impl<F: Fn(Global, &mut Cursor<'_>, u32, What) -> Result<Opened, Fault>> Grammar
     /// `( typename )`
     pub fn type_parens(&self, cursor: &mut Cursor<'_>) -> Result<TypeName, Fault>
         requires { Nests self.now.room (F.pre self.now.inner) (F.post self.now.inner) }
-        ensures { Gives (answer (spec.inner self.now.room).type_parens.read cursor.old) result cursor.new }
+        ensures { Gives (answer (inner self.now.room).type_parens.read cursor.old)
+            result cursor.new }
     {
         match self.open(cursor, What::TypeParens)? {
             Opened::TypeName(opened) => Ok(opened),
@@ -55,7 +58,8 @@ impl<F: Fn(Global, &mut Cursor<'_>, u32, What) -> Result<Opened, Fault>> Grammar
     /// `( typename )` behind `_Atomic`
     pub fn atomic_parens(&self, cursor: &mut Cursor<'_>) -> Result<TypeName, Fault>
         requires { Nests self.now.room (F.pre self.now.inner) (F.post self.now.inner) }
-        ensures { Gives (answer (spec.inner self.now.room).atomic_parens.read cursor.old) result cursor.new }
+        ensures { Gives (answer (inner self.now.room).atomic_parens.read cursor.old)
+            result cursor.new }
     {
         match self.open(cursor, What::AtomicParens)? {
             Opened::TypeName(opened) => Ok(opened),
@@ -66,7 +70,7 @@ impl<F: Fn(Global, &mut Cursor<'_>, u32, What) -> Result<Opened, Fault>> Grammar
     /// `[ expression ]`
     pub fn index(&self, cursor: &mut Cursor<'_>) -> Result<Expr, Fault>
         requires { Nests self.now.room (F.pre self.now.inner) (F.post self.now.inner) }
-        ensures { Gives (answer (spec.inner self.now.room).index.read cursor.old) result cursor.new }
+        ensures { Gives (answer (inner self.now.room).index.read cursor.old) result cursor.new }
     {
         match self.open(cursor, What::Index)? {
             Opened::Expr(opened) => Ok(opened),
@@ -77,7 +81,7 @@ impl<F: Fn(Global, &mut Cursor<'_>, u32, What) -> Result<Opened, Fault>> Grammar
     /// `( arguments )`
     pub fn call(&self, cursor: &mut Cursor<'_>) -> Result<Items<Expr>, Fault>
         requires { Nests self.now.room (F.pre self.now.inner) (F.post self.now.inner) }
-        ensures { Gives (answer (spec.inner self.now.room).call.read cursor.old) result cursor.new }
+        ensures { Gives (answer (inner self.now.room).call.read cursor.old) result cursor.new }
     {
         match self.open(cursor, What::Call)? {
             Opened::Exprs(opened) => Ok(opened),
@@ -86,9 +90,9 @@ impl<F: Fn(Global, &mut Cursor<'_>, u32, What) -> Result<Opened, Fault>> Grammar
     }
 
     /// A prefix operator and its operand.
-    pub fn prefixed(&self, cursor: &mut Cursor<'_>) -> Result<ExprKind, Fault>
+    pub fn prefix_operand(&self, cursor: &mut Cursor<'_>) -> Result<ExprKind, Fault>
         requires { Nests self.now.room (F.pre self.now.inner) (F.post self.now.inner) }
-        ensures { Gives (answer (spec.inner self.now.room).prefixed.read cursor.old) result cursor.new }
+        ensures { Gives (answer (inner self.now.room).prefixed.read cursor.old) result cursor.new }
     {
         match self.open(cursor, What::Prefixed)? {
             Opened::Kind(opened) => Ok(opened),
@@ -97,9 +101,9 @@ impl<F: Fn(Global, &mut Cursor<'_>, u32, What) -> Result<Opened, Fault>> Grammar
     }
 
     /// What a cast converts.
-    pub fn converted(&self, cursor: &mut Cursor<'_>) -> Result<Expr, Fault>
+    pub fn cast_operand(&self, cursor: &mut Cursor<'_>) -> Result<Expr, Fault>
         requires { Nests self.now.room (F.pre self.now.inner) (F.post self.now.inner) }
-        ensures { Gives (answer (spec.inner self.now.room).converted.read cursor.old) result cursor.new }
+        ensures { Gives (answer (inner self.now.room).converted.read cursor.old) result cursor.new }
     {
         match self.open(cursor, What::Converted)? {
             Opened::Expr(opened) => Ok(opened),
@@ -110,7 +114,7 @@ impl<F: Fn(Global, &mut Cursor<'_>, u32, What) -> Result<Opened, Fault>> Grammar
     /// The right side of an assignment.
     pub fn right(&self, cursor: &mut Cursor<'_>) -> Result<Expr, Fault>
         requires { Nests self.now.room (F.pre self.now.inner) (F.post self.now.inner) }
-        ensures { Gives (answer (spec.inner self.now.room).right.read cursor.old) result cursor.new }
+        ensures { Gives (answer (inner self.now.room).right.read cursor.old) result cursor.new }
     {
         match self.open(cursor, What::Right)? {
             Opened::Expr(opened) => Ok(opened),
@@ -121,7 +125,7 @@ impl<F: Fn(Global, &mut Cursor<'_>, u32, What) -> Result<Opened, Fault>> Grammar
     /// The members of a structure or union.
     pub fn members(&self, cursor: &mut Cursor<'_>) -> Result<Items<Member>, Fault>
         requires { Nests self.now.room (F.pre self.now.inner) (F.post self.now.inner) }
-        ensures { Gives (answer (spec.inner self.now.room).members.read cursor.old) result cursor.new }
+        ensures { Gives (answer (inner self.now.room).members.read cursor.old) result cursor.new }
     {
         match self.open(cursor, What::Members)? {
             Opened::Members(opened) => Ok(opened),
@@ -132,7 +136,7 @@ impl<F: Fn(Global, &mut Cursor<'_>, u32, What) -> Result<Opened, Fault>> Grammar
     /// The constants of an enumeration.
     pub fn constants(&self, cursor: &mut Cursor<'_>) -> Result<Items<EnumConstant>, Fault>
         requires { Nests self.now.room (F.pre self.now.inner) (F.post self.now.inner) }
-        ensures { Gives (answer (spec.inner self.now.room).constants.read cursor.old) result cursor.new }
+        ensures { Gives (answer (inner self.now.room).constants.read cursor.old) result cursor.new }
     {
         match self.open(cursor, What::Constants)? {
             Opened::Constants(opened) => Ok(opened),
@@ -143,7 +147,8 @@ impl<F: Fn(Global, &mut Cursor<'_>, u32, What) -> Result<Opened, Fault>> Grammar
     /// `( declarator )`
     pub fn declarator_parens(&self, cursor: &mut Cursor<'_>) -> Result<Declarator, Fault>
         requires { Nests self.now.room (F.pre self.now.inner) (F.post self.now.inner) }
-        ensures { Gives (answer (spec.inner self.now.room).declarator.read cursor.old) result cursor.new }
+        ensures { Gives (answer (inner self.now.room).declarator.read cursor.old)
+            result cursor.new }
     {
         match self.open(cursor, What::Declarator)? {
             Opened::Declarator(opened) => Ok(opened),
@@ -154,7 +159,7 @@ impl<F: Fn(Global, &mut Cursor<'_>, u32, What) -> Result<Opened, Fault>> Grammar
     /// `( abstract declarator )`
     pub fn abstract_parens(&self, cursor: &mut Cursor<'_>) -> Result<Declarator, Fault>
         requires { Nests self.now.room (F.pre self.now.inner) (F.post self.now.inner) }
-        ensures { Gives (answer (spec.inner self.now.room).abstract.read cursor.old) result cursor.new }
+        ensures { Gives (answer (inner self.now.room).abstract.read cursor.old) result cursor.new }
     {
         match self.open(cursor, What::Abstract)? {
             Opened::Declarator(opened) => Ok(opened),
@@ -165,7 +170,7 @@ impl<F: Fn(Global, &mut Cursor<'_>, u32, What) -> Result<Opened, Fault>> Grammar
     /// `( declarator )` of a parameter, abstract or not.
     pub fn parameter_parens(&self, cursor: &mut Cursor<'_>) -> Result<Declarator, Fault>
         requires { Nests self.now.room (F.pre self.now.inner) (F.post self.now.inner) }
-        ensures { Gives (answer (spec.inner self.now.room).parameter.read cursor.old) result cursor.new }
+        ensures { Gives (answer (inner self.now.room).parameter.read cursor.old) result cursor.new }
     {
         match self.open(cursor, What::Parameter)? {
             Opened::Declarator(opened) => Ok(opened),
@@ -176,7 +181,7 @@ impl<F: Fn(Global, &mut Cursor<'_>, u32, What) -> Result<Opened, Fault>> Grammar
     /// `[ size ]`
     pub fn array(&self, cursor: &mut Cursor<'_>) -> Result<Option<Expr>, Fault>
         requires { Nests self.now.room (F.pre self.now.inner) (F.post self.now.inner) }
-        ensures { Gives (answer (spec.inner self.now.room).array.read cursor.old) result cursor.new }
+        ensures { Gives (answer (inner self.now.room).array.read cursor.old) result cursor.new }
     {
         match self.open(cursor, What::Array)? {
             Opened::Size(opened) => Ok(opened),
@@ -187,7 +192,7 @@ impl<F: Fn(Global, &mut Cursor<'_>, u32, What) -> Result<Opened, Fault>> Grammar
     /// `? expression : conditional`
     pub fn choice(&self, cursor: &mut Cursor<'_>) -> Result<(Expr, Expr), Fault>
         requires { Nests self.now.room (F.pre self.now.inner) (F.post self.now.inner) }
-        ensures { Gives (answer (spec.inner self.now.room).choice.read cursor.old) result cursor.new }
+        ensures { Gives (answer (inner self.now.room).choice.read cursor.old) result cursor.new }
     {
         match self.open(cursor, What::Choice)? {
             Opened::Choice(first, second) => Ok((first, second)),
@@ -201,7 +206,7 @@ impl<F: Fn(Global, &mut Cursor<'_>, u32, What) -> Result<Opened, Fault>> Grammar
         cursor: &mut Cursor<'_>,
     ) -> Result<(Items<Parameter>, Items<Binding>), Fault>
         requires { Nests self.now.room (F.pre self.now.inner) (F.post self.now.inner) }
-        ensures { Gives (answer (spec.inner self.now.room).function.read cursor.old) result cursor.new }
+        ensures { Gives (answer (inner self.now.room).function.read cursor.old) result cursor.new }
     {
         match self.open(cursor, What::Function)? {
             Opened::Parameters(first, second) => Ok((first, second)),
@@ -210,9 +215,9 @@ impl<F: Fn(Global, &mut Cursor<'_>, u32, What) -> Result<Opened, Fault>> Grammar
     }
 
     /// `( condition , text )`
-    pub fn asserted(&self, cursor: &mut Cursor<'_>) -> Result<(Expr, Span), Fault>
+    pub fn assertion_parts(&self, cursor: &mut Cursor<'_>) -> Result<(Expr, Span), Fault>
         requires { Nests self.now.room (F.pre self.now.inner) (F.post self.now.inner) }
-        ensures { Gives (answer (spec.inner self.now.room).asserted.read cursor.old) result cursor.new }
+        ensures { Gives (answer (inner self.now.room).asserted.read cursor.old) result cursor.new }
     {
         match self.open(cursor, What::Asserted)? {
             Opened::Asserted(first, second) => Ok((first, second)),

@@ -6,13 +6,14 @@
 ghost use Rattle.std.specs.Prelude.{◌≡◌};
 ghost use Rattle.c_cursor.specs.Input.{Gives, answer};
 ghost use Rattle.c_syntax.specs.Grammar as spec;
+ghost use Rattle.c_syntax.specs.Grammar.{inner};
 ghost use Rattle.c_expr_parser.specs.Nests.{Nests};
 ghost use Rattle.c_expr_parser.specs.Opened as spec_starts;
 ghost use Rattle.c_expr_parser.specs.Opened.{opened_read};
 
 use crate::expressions::text_span;
 use crate::grammar::Grammar;
-use crate::nodes::listed;
+use crate::nodes::list_of;
 use crate::opened::{Opened, What};
 use crate::sets::{EXPRESSION_STARTS, PREFIXES};
 use c_cursor::{Cursor, Fault};
@@ -25,7 +26,8 @@ impl<F: Fn(Global, &mut Cursor<'_>, u32, What) -> Result<Opened, Fault>> Grammar
     /// `( expression )`
     fn inside_parens(&self, cursor: &mut Cursor<'_>) -> Result<Expr, Fault>
         requires { Nests self.now.room (F.pre self.now.inner) (F.post self.now.inner) }
-        ensures { Gives (answer (spec.deeper (spec.inner self.now.room)).parens.read cursor.old) result cursor.new }
+        ensures { Gives (answer (spec.deeper (inner self.now.room)).parens.read cursor.old)
+            result cursor.new }
     {
         cursor.sign(Terminal::LeftParen)?;
         let inside = self.expression(cursor)?;
@@ -36,7 +38,8 @@ impl<F: Fn(Global, &mut Cursor<'_>, u32, What) -> Result<Opened, Fault>> Grammar
     /// `( typename )`
     fn inside_type_parens(&self, cursor: &mut Cursor<'_>) -> Result<TypeName, Fault>
         requires { Nests self.now.room (F.pre self.now.inner) (F.post self.now.inner) }
-        ensures { Gives (answer (spec.deeper (spec.inner self.now.room)).type_parens.read cursor.old) result cursor.new }
+        ensures { Gives (answer (spec.deeper (inner self.now.room)).type_parens.read cursor.old)
+            result cursor.new }
     {
         cursor.sign(Terminal::LeftParen)?;
         let inside = self.typename(cursor)?;
@@ -47,7 +50,8 @@ impl<F: Fn(Global, &mut Cursor<'_>, u32, What) -> Result<Opened, Fault>> Grammar
     /// `( typename )` behind `_Atomic`
     fn inside_atomic_parens(&self, cursor: &mut Cursor<'_>) -> Result<TypeName, Fault>
         requires { Nests self.now.room (F.pre self.now.inner) (F.post self.now.inner) }
-        ensures { Gives (answer (spec.deeper (spec.inner self.now.room)).atomic_parens.read cursor.old) result cursor.new }
+        ensures { Gives (answer (spec.deeper (inner self.now.room)).atomic_parens.read cursor.old)
+            result cursor.new }
     {
         cursor.sign(Terminal::AtomicParen)?;
         let inside = self.typename(cursor)?;
@@ -58,7 +62,8 @@ impl<F: Fn(Global, &mut Cursor<'_>, u32, What) -> Result<Opened, Fault>> Grammar
     /// `[ expression ]`
     fn inside_index(&self, cursor: &mut Cursor<'_>) -> Result<Expr, Fault>
         requires { Nests self.now.room (F.pre self.now.inner) (F.post self.now.inner) }
-        ensures { Gives (answer (spec.deeper (spec.inner self.now.room)).index.read cursor.old) result cursor.new }
+        ensures { Gives (answer (spec.deeper (inner self.now.room)).index.read cursor.old)
+            result cursor.new }
     {
         cursor.sign(Terminal::LeftBracket)?;
         let inside = self.expression(cursor)?;
@@ -69,7 +74,8 @@ impl<F: Fn(Global, &mut Cursor<'_>, u32, What) -> Result<Opened, Fault>> Grammar
     /// `( arguments )`
     fn inside_call(&self, cursor: &mut Cursor<'_>) -> Result<Items<Expr>, Fault>
         requires { Nests self.now.room (F.pre self.now.inner) (F.post self.now.inner) }
-        ensures { Gives (answer (spec.deeper (spec.inner self.now.room)).call.read cursor.old) result cursor.new }
+        ensures { Gives (answer (spec.deeper (inner self.now.room)).call.read cursor.old)
+            result cursor.new }
     {
         cursor.sign(Terminal::LeftParen)?;
         let inside = self.optional_arguments(cursor)?;
@@ -80,7 +86,8 @@ impl<F: Fn(Global, &mut Cursor<'_>, u32, What) -> Result<Opened, Fault>> Grammar
     /// The members of a structure or union.
     fn inside_members(&self, cursor: &mut Cursor<'_>) -> Result<Items<Member>, Fault>
         requires { Nests self.now.room (F.pre self.now.inner) (F.post self.now.inner) }
-        ensures { Gives (answer (spec.deeper (spec.inner self.now.room)).members.read cursor.old) result cursor.new }
+        ensures { Gives (answer (spec.deeper (inner self.now.room)).members.read cursor.old)
+            result cursor.new }
     {
         cursor.sign(Terminal::LeftBrace)?;
         let inside = self.some_members(cursor)?;
@@ -91,7 +98,8 @@ impl<F: Fn(Global, &mut Cursor<'_>, u32, What) -> Result<Opened, Fault>> Grammar
     /// The constants of an enumeration.
     fn inside_constants(&self, cursor: &mut Cursor<'_>) -> Result<Items<EnumConstant>, Fault>
         requires { Nests self.now.room (F.pre self.now.inner) (F.post self.now.inner) }
-        ensures { Gives (answer (spec.deeper (spec.inner self.now.room)).constants.read cursor.old) result cursor.new }
+        ensures { Gives (answer (spec.deeper (inner self.now.room)).constants.read cursor.old)
+            result cursor.new }
     {
         cursor.sign(Terminal::LeftBrace)?;
         let inside = self.some_constants(cursor)?;
@@ -102,7 +110,8 @@ impl<F: Fn(Global, &mut Cursor<'_>, u32, What) -> Result<Opened, Fault>> Grammar
     /// `( declarator )`
     fn inside_declarator(&self, cursor: &mut Cursor<'_>) -> Result<Declarator, Fault>
         requires { Nests self.now.room (F.pre self.now.inner) (F.post self.now.inner) }
-        ensures { Gives (answer (spec.deeper (spec.inner self.now.room)).declarator.read cursor.old) result cursor.new }
+        ensures { Gives (answer (spec.deeper (inner self.now.room)).declarator.read cursor.old)
+            result cursor.new }
     {
         cursor.sign(Terminal::LeftParen)?;
         let inside = self.declarator(cursor)?;
@@ -113,7 +122,8 @@ impl<F: Fn(Global, &mut Cursor<'_>, u32, What) -> Result<Opened, Fault>> Grammar
     /// `( abstract )`
     fn inside_abstract(&self, cursor: &mut Cursor<'_>) -> Result<Declarator, Fault>
         requires { Nests self.now.room (F.pre self.now.inner) (F.post self.now.inner) }
-        ensures { Gives (answer (spec.deeper (spec.inner self.now.room)).abstract.read cursor.old) result cursor.new }
+        ensures { Gives (answer (spec.deeper (inner self.now.room)).abstract.read cursor.old)
+            result cursor.new }
     {
         cursor.sign(Terminal::LeftParen)?;
         let inside = self.some_abstract(cursor)?;
@@ -124,7 +134,8 @@ impl<F: Fn(Global, &mut Cursor<'_>, u32, What) -> Result<Opened, Fault>> Grammar
     /// `( declarator or abstract )`
     fn inside_parameter(&self, cursor: &mut Cursor<'_>) -> Result<Declarator, Fault>
         requires { Nests self.now.room (F.pre self.now.inner) (F.post self.now.inner) }
-        ensures { Gives (answer (spec.deeper (spec.inner self.now.room)).parameter.read cursor.old) result cursor.new }
+        ensures { Gives (answer (spec.deeper (inner self.now.room)).parameter.read cursor.old)
+            result cursor.new }
     {
         cursor.sign(Terminal::LeftParen)?;
         let inside = self.inner_parameter(cursor)?;
@@ -135,7 +146,8 @@ impl<F: Fn(Global, &mut Cursor<'_>, u32, What) -> Result<Opened, Fault>> Grammar
     /// `[ size ]`
     fn inside_array(&self, cursor: &mut Cursor<'_>) -> Result<Option<Expr>, Fault>
         requires { Nests self.now.room (F.pre self.now.inner) (F.post self.now.inner) }
-        ensures { Gives (answer (spec.deeper (spec.inner self.now.room)).array.read cursor.old) result cursor.new }
+        ensures { Gives (answer (spec.deeper (inner self.now.room)).array.read cursor.old)
+            result cursor.new }
     {
         cursor.sign(Terminal::LeftBracket)?;
         let inside = self.optional_size(cursor)?;
@@ -149,7 +161,8 @@ impl<F: Fn(Global, &mut Cursor<'_>, u32, What) -> Result<Opened, Fault>> Grammar
         cursor: &mut Cursor<'_>,
     ) -> Result<(Items<Parameter>, Items<Binding>), Fault>
         requires { Nests self.now.room (F.pre self.now.inner) (F.post self.now.inner) }
-        ensures { Gives (answer (spec.deeper (spec.inner self.now.room)).function.read cursor.old) result cursor.new }
+        ensures { Gives (answer (spec.deeper (inner self.now.room)).function.read cursor.old)
+            result cursor.new }
     {
         cursor.sign(Terminal::LeftParen)?;
         let inside = self.collected_parameters(cursor)?;
@@ -160,7 +173,8 @@ impl<F: Fn(Global, &mut Cursor<'_>, u32, What) -> Result<Opened, Fault>> Grammar
     /// `? expression : conditional`
     fn inside_choice(&self, cursor: &mut Cursor<'_>) -> Result<(Expr, Expr), Fault>
         requires { Nests self.now.room (F.pre self.now.inner) (F.post self.now.inner) }
-        ensures { Gives (answer (spec.deeper (spec.inner self.now.room)).choice.read cursor.old) result cursor.new }
+        ensures { Gives (answer (spec.deeper (inner self.now.room)).choice.read cursor.old)
+            result cursor.new }
     {
         cursor.sign(Terminal::Question)?;
         let then = self.expression(cursor)?;
@@ -170,9 +184,10 @@ impl<F: Fn(Global, &mut Cursor<'_>, u32, What) -> Result<Opened, Fault>> Grammar
     }
 
     /// `( condition , text )`
-    fn inside_asserted(&self, cursor: &mut Cursor<'_>) -> Result<(Expr, Span), Fault>
+    fn inside_assertion(&self, cursor: &mut Cursor<'_>) -> Result<(Expr, Span), Fault>
         requires { Nests self.now.room (F.pre self.now.inner) (F.post self.now.inner) }
-        ensures { Gives (answer (spec.deeper (spec.inner self.now.room)).asserted.read cursor.old) result cursor.new }
+        ensures { Gives (answer (spec.deeper (inner self.now.room)).asserted.read cursor.old)
+            result cursor.new }
     {
         cursor.sign(Terminal::LeftParen)?;
         let condition = self.conditional(cursor)?;
@@ -185,7 +200,8 @@ impl<F: Fn(Global, &mut Cursor<'_>, u32, What) -> Result<Opened, Fault>> Grammar
     /// What a construct is, where this grammar's room is what is left behind its beginning.
     pub fn inside(&self, cursor: &mut Cursor<'_>, what: What) -> Result<Opened, Fault>
         requires { Nests self.now.room (F.pre self.now.inner) (F.post self.now.inner) }
-        ensures { Gives (answer (opened_read what (spec.deeper (spec.inner self.now.room))) cursor.old) result cursor.new }
+        ensures { Gives (answer (opened_read what (spec.deeper (inner self.now.room))) cursor.old)
+            result cursor.new }
     {
         match what {
             What::Parens => Ok(Opened::Expr(self.inside_parens(cursor)?)),
@@ -211,7 +227,7 @@ impl<F: Fn(Global, &mut Cursor<'_>, u32, What) -> Result<Opened, Fault>> Grammar
                 Ok(Opened::Parameters(parameters, scope))
             }
             What::Asserted => {
-                let (condition, text) = self.inside_asserted(cursor)?;
+                let (condition, text) = self.inside_assertion(cursor)?;
                 Ok(Opened::Asserted(condition, text))
             }
         }

@@ -7,6 +7,7 @@ mod grammar;
 mod knot;
 mod nodes;
 mod opened;
+mod pointers;
 mod refusal;
 mod sets;
 mod whole;

@@ -15,7 +15,7 @@ use sqlite_items::{Boxed, Items};
 use std::alloc::{AllocError, Global};
 
 /// One more in front of a list.
-pub fn listed<T: Drop>(alloc: Global, first: T, more: Items<T>) -> Result<Items<T>, AllocError>
+pub fn list_of<T: Drop>(alloc: Global, first: T, more: Items<T>) -> Result<Items<T>, AllocError>
     ensures { IfOk result (λ all. all ≡ first ∷ more) }
 {
     let mut all = Items::new(alloc);
@@ -206,7 +206,8 @@ pub fn is_typedef(kind: &SpecifierKind) -> bool
 
 /// A name is declared, where there is one, as the specifiers before say.
 pub fn declare_name(cursor: &mut Cursor<'_>, name: Option<u32>) -> Result<(), AllocError>
-    ensures { OnOk result (cursor.new ≡ in_state cursor.old (declared (values.named_scope cursor.old.state.typedef name) cursor.old.state)) }
+    ensures { OnOk result (cursor.new ≡ in_state cursor.old
+        (declared (values.named_scope cursor.old.state.typedef name) cursor.old.state)) }
 {
     match name {
         None => Ok(()),

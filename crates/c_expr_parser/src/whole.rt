@@ -1,8 +1,9 @@
 //! A list of tokens that is an expression, read to its End.
 
 ghost use Rattle.std.specs.Prelude.{◌≡◌, ◌^◌, ◌<◌, length, IfOk, IfErr};
-ghost use Rattle.c_cursor.specs.Input.{Gives, answer, start_of};
+ghost use Rattle.c_cursor.specs.Input.{start_of};
 ghost use Rattle.c_syntax.specs.Spelling.{Spells, whole_expressions, most_nesting};
+ghost use Rattle.c_expr_parser.specs.Reads.{Reads};
 ghost use Rattle.c_expr_parser.specs.Nests.{Nests};
 ghost use Rattle.c_expr_parser.specs.Refusals.{IsRight};
 
@@ -22,7 +23,7 @@ impl<F: Fn(Global, &mut Cursor<'_>, u32, What) -> Result<Opened, Fault>> Grammar
     /// An expression and the End behind it.
     fn whole_expression(&self, cursor: &mut Cursor<'_>) -> Result<Expr, Fault>
         requires { Nests self.now.room (F.pre self.now.inner) (F.post self.now.inner) }
-        ensures { Gives (answer (whole_expressions self.now.room).read cursor.old) result cursor.new }
+        ensures { Reads (whole_expressions self.now.room) cursor.old result cursor.new }
     {
         let expr = self.expression(cursor)?;
         cursor.sign(Terminal::End)?;
@@ -35,7 +36,8 @@ impl<F: Fn(Global, &mut Cursor<'_>, u32, What) -> Result<Opened, Fault>> Grammar
 /// earlier decides, and Syntax where both are one.
 pub fn expression(alloc: Global, tokens: &[Lexeme]) -> Result<Expr, Refusal>
     requires { length tokens.now < 2 ^ 32 }
-    ensures spelled { IfOk result (λ expr. Spells whole_expressions most_nesting (start_of tokens.now) tokens.now expr) }
+    ensures spelled { IfOk result (λ expr.
+        Spells whole_expressions most_nesting (start_of tokens.now) tokens.now expr) }
     ensures refused { IfErr result (IsRight whole_expressions (start_of tokens.now) tokens.now) }
 {
     let mut cursor = Cursor::new(alloc, tokens);
@@ -45,11 +47,11 @@ pub fn expression(alloc: Global, tokens: &[Lexeme]) -> Result<Expr, Refusal>
         inner: construct,
     };
     let read = grammar.whole_expression(&mut cursor);
-    let left = cursor.left();
-    let place = tokens.len().saturating_sub(left);
+    let remaining = cursor.remaining();
+    let place = tokens.len().saturating_sub(remaining);
     match read {
         Ok(expr) => {
-            if left == 0 {
+            if remaining == 0 {
                 Ok(expr)
             } else {
                 Err(Refusal::Syntax(place))

@@ -11,4 +11,4 @@ pub texts-preserved : goal.texts-preserved
 texts-preserved c =
     skip_on (has (t.Text ∷ [])) (sign t.Text).read (length c.args.cursor.now.rest) c.texts._turn c.texts.cursor c.sign.new.self tt
     (answer (change (λ x. tt {0}) (repeat (has (t.Text ∷ [])) (sign t.Text).read)) c.args.cursor.now)
-    (subst (λ n. c.texts._turn < n) c.left-turn-end.ensures c.texts-test.true) c.texts.invariant (sym c.if-not-next_is.ensures) c.in_ok-sign.ensures
+    (subst (λ n. c.texts._turn < n) c.remaining-turn-end.ensures c.texts-test.true) c.texts.invariant (sym c.if-not-next_is.ensures) c.in_ok-sign.ensures

@@ -8,21 +8,21 @@ use Rattle.c_expr_parser.proofs.Returned.{is_spelled, is_refused_behind, is_righ
 use Rattle.c_expr_parser.specs.Refusals.{IsRight, refusal_of}
 use Rattle.c_expr_parser.proofs.whole.expression.Goals as goal
 
-pub returns-then-left-eq0-clause-spelled : goal.returns-then-left-eq0-clause-spelled
-returns-then-left-eq0-clause-spelled c =
+pub returns-then-remaining-eq0-clause-spelled : goal.returns-then-remaining-eq0-clause-spelled
+returns-then-remaining-eq0-clause-spelled c =
     is_spelled whole_expressions whole-expressions-read c.new-cursor.result c.whole_expression-read.new.cursor c.args.tokens.now c.new-cursor.ensures.rest c.new-cursor.ensures.state
-    c.in-Ok.expr c.in-Ok.ensures (sym c.left-left.ensures ∙ c.if-left-eq0.true)
+    c.in-Ok.expr c.in-Ok.ensures (sym c.remaining-remaining.ensures ∙ c.if-remaining-eq0.true)
 
 pub returns-in-Ok-clause-refused : goal.returns-in-Ok-clause-refused
 returns-in-Ok-clause-refused c =
     subst (λ k. IsRightlyRefused whole_expressions Syntax (start_of c.args.tokens.now) c.args.tokens.now k)
-    (sym (c.saturating_sub-place.ensures ∙ ap (λ k. length c.args.tokens.now - k) c.left-left.ensures))
+    (sym (c.saturating_sub-place.ensures ∙ ap (λ k. length c.args.tokens.now - k) c.remaining-remaining.ensures))
     (is_refused_behind whole_expressions whole-expressions-read c.new-cursor.result c.whole_expression-read.new.cursor c.args.tokens.now c.new-cursor.ensures.rest c.new-cursor.ensures.state
-    c.in-Ok.expr c.in-Ok.ensures (λ e. c.if-left-eq0.false (c.left-left.ensures ∙ e)))
+    c.in-Ok.expr c.in-Ok.ensures (λ e. c.if-remaining-eq0.false (c.remaining-remaining.ensures ∙ e)))
 
 pub returns-clause-refused : goal.returns-clause-refused
 returns-clause-refused c =
     subst (λ r. IsRight whole_expressions (start_of c.args.tokens.now) c.args.tokens.now r)
-    (sym (c.refusal_at.ensures ∙ ap (λ k. refusal_of c.in-Err.fault k) (c.saturating_sub-place.ensures ∙ ap (λ k. length c.args.tokens.now - k) c.left-left.ensures)))
+    (sym (c.refusal_at.ensures ∙ ap (λ k. refusal_of c.in-Err.fault k) (c.saturating_sub-place.ensures ∙ ap (λ k. length c.args.tokens.now - k) c.remaining-remaining.ensures)))
     (is_right whole_expressions whole-expressions-read c.new-cursor.result c.whole_expression-read.new.cursor c.args.tokens.now c.new-cursor.ensures.rest c.new-cursor.ensures.state
     c.in-Err.fault c.in-Err.ensures)

@@ -14,9 +14,9 @@ returns-then-not-next_is g c =
 pub returns-in_err-one : goal.returns-in_err-one
 returns-in_err-one g c =
     gives_err (answer (repeat (has (t.Comma ∷ [])) (spec.comma_and (spec.parameter (spec.inner c.args.self.now.room))).read) c.args.cursor.now) c.from_residual.result c.in_err-one.field-0.0 c.next_parameter.new.cursor c.from_residual.ensures.1
-    (turn_failed (has (t.Comma ∷ [])) (spec.comma_and (spec.parameter (spec.inner c.args.self.now.room))).read (length c.args.cursor.now.rest) c.more._turn c.more.cursor c.next_parameter.new.cursor c.more.more c.in_err-one.field-0.0 (answer (repeat (has (t.Comma ∷ [])) (spec.comma_and (spec.parameter (spec.inner c.args.self.now.room))).read) c.args.cursor.now) (subst (λ n. c.more._turn < n) c.left-turn-end.ensures c.more-test.true) c.more.invariant (sym c.if-not-next_is.ensures) c.in_err-one.ensures)
+    (turn_failed (has (t.Comma ∷ [])) (spec.comma_and (spec.parameter (spec.inner c.args.self.now.room))).read (length c.args.cursor.now.rest) c.more._turn c.more.cursor c.next_parameter.new.cursor c.more.more c.in_err-one.field-0.0 (answer (repeat (has (t.Comma ∷ [])) (spec.comma_and (spec.parameter (spec.inner c.args.self.now.room))).read) c.args.cursor.now) (subst (λ n. c.more._turn < n) c.remaining-turn-end.ensures c.more-test.true) c.more.invariant (sym c.if-not-next_is.ensures) c.in_err-one.ensures)
 
 pub more-preserved : goal.more-preserved
 more-preserved g c =
     subst (λ l. so_far (has (t.Comma ∷ [])) (spec.comma_and (spec.parameter (spec.inner c.args.self.now.room))).read ((length c.args.cursor.now.rest) - (c.more._turn + 1)) c.next_parameter.new.cursor l ≡ (answer (repeat (has (t.Comma ∷ [])) (spec.comma_and (spec.parameter (spec.inner c.args.self.now.room))).read) c.args.cursor.now)) (sym c.in_ok-push.ensures.ok)
-    (turn_on (has (t.Comma ∷ [])) (spec.comma_and (spec.parameter (spec.inner c.args.self.now.room))).read (length c.args.cursor.now.rest) c.more._turn c.more.cursor c.next_parameter.new.cursor c.more.more c.in_ok-one.one (answer (repeat (has (t.Comma ∷ [])) (spec.comma_and (spec.parameter (spec.inner c.args.self.now.room))).read) c.args.cursor.now) (subst (λ n. c.more._turn < n) c.left-turn-end.ensures c.more-test.true) c.more.invariant (sym c.if-not-next_is.ensures) c.in_ok-one.ensures)
+    (turn_on (has (t.Comma ∷ [])) (spec.comma_and (spec.parameter (spec.inner c.args.self.now.room))).read (length c.args.cursor.now.rest) c.more._turn c.more.cursor c.next_parameter.new.cursor c.more.more c.in_ok-one.one (answer (repeat (has (t.Comma ∷ [])) (spec.comma_and (spec.parameter (spec.inner c.args.self.now.room))).read) c.args.cursor.now) (subst (λ n. c.more._turn < n) c.remaining-turn-end.ensures c.more-test.true) c.more.invariant (sym c.if-not-next_is.ensures) c.in_ok-one.ensures)

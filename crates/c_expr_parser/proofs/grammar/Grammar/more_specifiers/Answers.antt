@@ -13,9 +13,9 @@ returns-then-not-next_is g c =
 pub returns-in_err-one : goal.returns-in_err-one
 returns-in_err-one g c =
     gives_err (answer (repeat (has (spec.specifier (spec.inner c.args.self.now.room)).shape.starts) (spec.specifier (spec.inner c.args.self.now.room)).read) c.args.cursor.now) c.from_residual.result c.in_err-one.field-0.0 c.specifier.new.cursor c.from_residual.ensures.1
-    (turn_failed (has (spec.specifier (spec.inner c.args.self.now.room)).shape.starts) (spec.specifier (spec.inner c.args.self.now.room)).read (length c.args.cursor.now.rest) c.list._turn c.list.cursor c.specifier.new.cursor c.list.list c.in_err-one.field-0.0 (answer (repeat (has (spec.specifier (spec.inner c.args.self.now.room)).shape.starts) (spec.specifier (spec.inner c.args.self.now.room)).read) c.args.cursor.now) (subst (λ n. c.list._turn < n) c.left-turn-end.ensures c.list-test.true) c.list.invariant (sym c.if-not-next_is.ensures) c.in_err-one.ensures)
+    (turn_failed (has (spec.specifier (spec.inner c.args.self.now.room)).shape.starts) (spec.specifier (spec.inner c.args.self.now.room)).read (length c.args.cursor.now.rest) c.list._turn c.list.cursor c.specifier.new.cursor c.list.list c.in_err-one.field-0.0 (answer (repeat (has (spec.specifier (spec.inner c.args.self.now.room)).shape.starts) (spec.specifier (spec.inner c.args.self.now.room)).read) c.args.cursor.now) (subst (λ n. c.list._turn < n) c.remaining-turn-end.ensures c.list-test.true) c.list.invariant (sym c.if-not-next_is.ensures) c.in_err-one.ensures)
 
 pub list-preserved : goal.list-preserved
 list-preserved g c =
     subst (λ l. so_far (has (spec.specifier (spec.inner c.args.self.now.room)).shape.starts) (spec.specifier (spec.inner c.args.self.now.room)).read ((length c.args.cursor.now.rest) - (c.list._turn + 1)) c.specifier.new.cursor l ≡ (answer (repeat (has (spec.specifier (spec.inner c.args.self.now.room)).shape.starts) (spec.specifier (spec.inner c.args.self.now.room)).read) c.args.cursor.now)) (sym c.in_ok-push.ensures.ok)
-    (turn_on (has (spec.specifier (spec.inner c.args.self.now.room)).shape.starts) (spec.specifier (spec.inner c.args.self.now.room)).read (length c.args.cursor.now.rest) c.list._turn c.list.cursor c.specifier.new.cursor c.list.list c.in_ok-one.one (answer (repeat (has (spec.specifier (spec.inner c.args.self.now.room)).shape.starts) (spec.specifier (spec.inner c.args.self.now.room)).read) c.args.cursor.now) (subst (λ n. c.list._turn < n) c.left-turn-end.ensures c.list-test.true) c.list.invariant (sym c.if-not-next_is.ensures) c.in_ok-one.ensures)
+    (turn_on (has (spec.specifier (spec.inner c.args.self.now.room)).shape.starts) (spec.specifier (spec.inner c.args.self.now.room)).read (length c.args.cursor.now.rest) c.list._turn c.list.cursor c.specifier.new.cursor c.list.list c.in_ok-one.one (answer (repeat (has (spec.specifier (spec.inner c.args.self.now.room)).shape.starts) (spec.specifier (spec.inner c.args.self.now.room)).read) c.args.cursor.now) (subst (λ n. c.list._turn < n) c.remaining-turn-end.ensures c.list-test.true) c.list.invariant (sym c.if-not-next_is.ensures) c.in_ok-one.ensures)

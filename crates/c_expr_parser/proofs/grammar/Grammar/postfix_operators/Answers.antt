@@ -13,9 +13,9 @@ returns-then-not-next_is g c =
 pub returns-in_err-operator : goal.returns-in_err-operator
 returns-in_err-operator g c =
     gives_err (answer (repeat (has (spec.postfix_operator (spec.inner c.args.self.now.room)).shape.starts) (spec.postfix_operator (spec.inner c.args.self.now.room)).read) c.args.cursor.now) c.from_residual.result c.in_err-operator.field-0.0 c.postfix_operator.new.cursor c.from_residual.ensures.1
-    (turn_failed (has (spec.postfix_operator (spec.inner c.args.self.now.room)).shape.starts) (spec.postfix_operator (spec.inner c.args.self.now.room)).read (length c.args.cursor.now.rest) c.operators._turn c.operators.cursor c.postfix_operator.new.cursor c.operators.operators c.in_err-operator.field-0.0 (answer (repeat (has (spec.postfix_operator (spec.inner c.args.self.now.room)).shape.starts) (spec.postfix_operator (spec.inner c.args.self.now.room)).read) c.args.cursor.now) (subst (λ n. c.operators._turn < n) c.left-turn-end.ensures c.operators-test.true) c.operators.invariant (sym c.if-not-next_is.ensures) c.in_err-operator.ensures)
+    (turn_failed (has (spec.postfix_operator (spec.inner c.args.self.now.room)).shape.starts) (spec.postfix_operator (spec.inner c.args.self.now.room)).read (length c.args.cursor.now.rest) c.operators._turn c.operators.cursor c.postfix_operator.new.cursor c.operators.operators c.in_err-operator.field-0.0 (answer (repeat (has (spec.postfix_operator (spec.inner c.args.self.now.room)).shape.starts) (spec.postfix_operator (spec.inner c.args.self.now.room)).read) c.args.cursor.now) (subst (λ n. c.operators._turn < n) c.remaining-turn-end.ensures c.operators-test.true) c.operators.invariant (sym c.if-not-next_is.ensures) c.in_err-operator.ensures)
 
 pub operators-preserved : goal.operators-preserved
 operators-preserved g c =
     subst (λ l. so_far (has (spec.postfix_operator (spec.inner c.args.self.now.room)).shape.starts) (spec.postfix_operator (spec.inner c.args.self.now.room)).read ((length c.args.cursor.now.rest) - (c.operators._turn + 1)) c.postfix_operator.new.cursor l ≡ (answer (repeat (has (spec.postfix_operator (spec.inner c.args.self.now.room)).shape.starts) (spec.postfix_operator (spec.inner c.args.self.now.room)).read) c.args.cursor.now)) (sym c.in_ok-push.ensures.ok)
-    (turn_on (has (spec.postfix_operator (spec.inner c.args.self.now.room)).shape.starts) (spec.postfix_operator (spec.inner c.args.self.now.room)).read (length c.args.cursor.now.rest) c.operators._turn c.operators.cursor c.postfix_operator.new.cursor c.operators.operators c.in_ok-operator.operator (answer (repeat (has (spec.postfix_operator (spec.inner c.args.self.now.room)).shape.starts) (spec.postfix_operator (spec.inner c.args.self.now.room)).read) c.args.cursor.now) (subst (λ n. c.operators._turn < n) c.left-turn-end.ensures c.operators-test.true) c.operators.invariant (sym c.if-not-next_is.ensures) c.in_ok-operator.ensures)
+    (turn_on (has (spec.postfix_operator (spec.inner c.args.self.now.room)).shape.starts) (spec.postfix_operator (spec.inner c.args.self.now.room)).read (length c.args.cursor.now.rest) c.operators._turn c.operators.cursor c.postfix_operator.new.cursor c.operators.operators c.in_ok-operator.operator (answer (repeat (has (spec.postfix_operator (spec.inner c.args.self.now.room)).shape.starts) (spec.postfix_operator (spec.inner c.args.self.now.room)).read) c.args.cursor.now) (subst (λ n. c.operators._turn < n) c.remaining-turn-end.ensures c.operators-test.true) c.operators.invariant (sym c.if-not-next_is.ensures) c.in_ok-operator.ensures)
