@@ -24,7 +24,20 @@ use Rattle.ideal_machine.specs.IntAccess.{check_access, load_int, store_int, upd
 use Rattle.ideal_machine.specs.PointerAccess.{check_store, load_pointer, store_pointer, store_pair, swap_pair, PairExchange, exchange_round}
 use Rattle.ideal_machine.specs.Lifetimes.{make_home, make_object, free_object, tell_size}
 use Rattle.ideal_machine.specs.Threads.{lock_round, function_named, start_thread, join_thread, take_in}
-use Rattle.whole_thread.specs.Standing.{Frame, Caller, Standing, room, first_registers, register, registers_from, with_register, at_index, onward, in_round}
+use Rattle.whole_thread.specs.Standing.{Caller, Standing, room, first_registers, register, registers_from, with_register, at_index, onward, in_round}
+
+-- how a thread of code begins: its start, and the number by which each static object is named
+pub record CodeStart : Type 0 where
+  pub id : ℕ
+  pub function : ℕ
+  pub argument : Value
+  pub base : ℕ → ℕ
+  pub names : ℕ → ℕ
+
+-- in a history a static object is named by its own number
+abbrev pub by_number : Start → CodeStart
+by_number start =
+    record { id = start.id; function = start.function; argument = start.argument; base = start.base; names = λ n. n }
 
 -- what follows, from where a thread stands then
 abbrev pub Next : Type 0
@@ -125,11 +138,11 @@ returns main next (caller ∷ callers) v = next (behind_call caller callers v)
 
 -- ---- the instructions
 
-abbrev pub act : PlainCode → Start → Next → Standing → (line : ℕ) → Op → Phrase ℕ
+abbrev pub act : PlainCode → CodeStart → Next → Standing → (line : ℕ) → Op → Phrase ℕ
 -- registers
 act code start next at line (op.Const d constant) = sets next at d (integer constant)
 act code start next at line (op.Move d a) = sets next at d (register at a)
-act code start next at line (op.StaticAt d n) = sets next at d (object_pointer start.base n)
+act code start next at line (op.StaticAt d n) = sets next at d (object_pointer start.base (start.names n))
 act code start next at line (op.FunctionAt d f) = sets next at d (function_pointer f)
 -- integers
 act code start next at line (op.Convert d a t) = sets next at d (integer (convert_of (register at a).number (type_at t)))

@@ -1,7 +1,7 @@
 -- What a thread makes of the answer to the event that it wants.
 --
 -- An answer that doesn't fit the event is no reply to it, and changes nothing.
-use Rattle.std.specs.Prelude.{ℕ, ◌-◌, ◌%◌, ◌==◌, List, [], ◌∷◌, Bool, true, false, Option, Some, None, Result, Ok, Err, if◌then◌else◌}
+use Rattle.std.specs.Prelude.{ℕ, ◌-◌, ◌%◌, ◌==◌, Bool, true, false, Option, Some, None, Result, Ok, Err, if◌then◌else◌}
 use Rattle.filc_num.specs.Integers.{bytes_of, convert_of}
 use Rattle.filc_num.specs.declared.integer.IntType.TheVariants.{U64}
 use Rattle.filc_num.specs.declared.reason.Reason.{Reason}

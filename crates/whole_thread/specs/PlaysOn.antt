@@ -24,14 +24,14 @@ use Rattle.ideal_machine.specs.Play.{Gives, Stops, Asks, Jump, Call, Waits, Fini
 use Rattle.ideal_machine.specs.Phrases.{Start, Phrase, arithmetic, trap, if_zero}
 use Rattle.ideal_machine.specs.Retries.{ask}
 use Rattle.ideal_machine.specs.Addresses.{look_at, elements_between}
-use Rattle.ideal_machine.specs.PointerAccess.{PairExchange, word_of, pair_of, pointer_found, replace_seen}
+use Rattle.ideal_machine.specs.PointerAccess.{word_of, pair_of, pointer_found, replace_seen}
 use Rattle.whole_thread.specs.declared.stage.Halt.{Halt}
 use Rattle.whole_thread.specs.declared.stage.Halt.TheVariants as halt
 use Rattle.whole_thread.specs.declared.stage.Stage.{Stage}
 use Rattle.whole_thread.specs.declared.stage.Stage.TheVariants as stage
 use Rattle.whole_thread.specs.declared.stage.Want.TheVariants as want
-use Rattle.whole_thread.specs.Standing.{Standing, trap_line, register, onward}
-use Rattle.whole_thread.specs.Act.{Next, sets, gives, does, found_or_again, locks, sets_both, exchanges, operation_at, kinds_of, act}
+use Rattle.whole_thread.specs.Standing.{Standing, trap_line, register}
+use Rattle.whole_thread.specs.Act.{CodeStart, Next, sets, gives, does, found_or_again, locks, sets_both, exchanges, operation_at, kinds_of, act}
 use Rattle.whole_thread.specs.CodePlay.{exec, code_play}
 use Rattle.whole_thread.specs.Thread.{Thread, place_address, want_at, step_by, thread_after_poll, thread_after_begin}
 use Rattle.whole_thread.specs.Answers.{answer_at}
@@ -98,7 +98,7 @@ abbrev pub halt_play : Halt → Phrase ℕ
 halt_play (halt.Returned result) = Gives tt result
 halt_play (halt.Finished finish) = Stops (FinishedStop finish)
 
-abbrev pub stage_play : PlainCode → Start → Next → Standing → (line : ℕ) → Op → Stage → Phrase ℕ
+abbrev pub stage_play : PlainCode → CodeStart → Next → Standing → (line : ℕ) → Op → Stage → Phrase ℕ
 stage_play code start next at line op stage.Before = act code start next at line op
 stage_play code start next at line op (stage.Granted access) = granted_play next at line op access
 stage_play code start next at line op (stage.Stored access) = stored_play next at op access
@@ -118,12 +118,12 @@ in_round_play None play = play
 in_round_play (Some access) play = Jump play
 
 -- before an instruction at most m are played; within one, what is left of it and then at most m
-abbrev pub plays_from : PlainCode → Start → ℕ → Instruction → Thread → Stage → Phrase ℕ
+abbrev pub plays_from : PlainCode → CodeStart → ℕ → Instruction → Thread → Stage → Phrase ℕ
 plays_from code start m i thread stage.Before = in_round_play thread.at.granted (exec code start m thread.at)
 plays_from code start m i thread s = stage_play code start (exec code start m) thread.at (trap_line thread.at.frame i) i.op s
 
 -- a thread that has come from the instruction i
-abbrev pub plays_on : PlainCode → Start → ℕ → Instruction → Thread → Phrase ℕ
+abbrev pub plays_on : PlainCode → CodeStart → ℕ → Instruction → Thread → Phrase ℕ
 plays_on code start m i thread = plays_from code start m i thread thread.stage
 
 -- ---- events
@@ -136,18 +136,19 @@ pub record AsksThen (play : Phrase ℕ) (event : Event) (after : Answer → Phra
   pub wish : wish_of query ≡ event
   pub goes : (answer : Answer) (reply : Reply query) → reply_to query answer ≡ Some reply → next reply ≡ after answer
 
--- the start with the addresses of places
-abbrev pub placed : Start → Start
-placed start = record start { base = place_address }
+-- among places each object is named by its own, and so is a static object
+abbrev pub by_place : (places : ℕ → ℕ) → Start → CodeStart
+by_place places start =
+    record { id = start.id; function = start.function; argument = start.argument; base = place_address; names = places }
 
 -- at a stage within an instruction: the event that the thread wants is what the play asks, and with each answer that fits the
 -- thread goes on as the play does
 abbrev pub FollowsAt : Stage → Type 0
 FollowsAt s =
-    (code : PlainCode) (start : Start) (m : ℕ) (i : Instruction) (thread : Thread) (event : Event) →
+    (code : PlainCode) (places : ℕ → ℕ) (start : Start) (m : ℕ) (i : Instruction) (thread : Thread) (event : Event) →
     want_at code thread i.op s ≡ want.Event event →
-    AsksThen (stage_play code (placed start) (exec code (placed start) m) thread.at (trap_line thread.at.frame i) i.op s) event
-    (λ answer. plays_on code (placed start) m i (answer_at thread (trap_line thread.at.frame i) i.op s answer))
+    AsksThen (stage_play code (by_place places start) (exec code (by_place places start) m) thread.at (trap_line thread.at.frame i) i.op s) event
+    (λ answer. plays_on code (by_place places start) m i (answer_at thread (trap_line thread.at.frame i) i.op s answer))
 
 -- so behind a granted check, and whatever was answered then
 abbrev pub GrantedFollows : Type 0
@@ -177,21 +178,21 @@ TrapFollows = (reason : Reason) (line : ℕ) → FollowsAt (stage.Traps reason l
 -- before an instruction that isn't in a further round, in a thread of this code
 abbrev pub BeforeFollows : Type 0
 BeforeFollows =
-    (code : PlainCode) (start : Start) (m : ℕ) (i : Instruction) (thread : Thread) (event : Event) →
+    (code : PlainCode) (places : ℕ → ℕ) (start : Start) (m : ℕ) (i : Instruction) (thread : Thread) (event : Event) →
     thread.at.granted ≡ None → thread.main ≡ (start.function == code.main) → want_at code thread i.op stage.Before ≡ want.Event event →
-    AsksThen (stage_play code (placed start) (exec code (placed start) m) thread.at (trap_line thread.at.frame i) i.op stage.Before) event
-    (λ answer. plays_on code (placed start) m i (answer_at thread (trap_line thread.at.frame i) i.op stage.Before answer))
+    AsksThen (stage_play code (by_place places start) (exec code (by_place places start) m) thread.at (trap_line thread.at.frame i) i.op stage.Before) event
+    (λ answer. plays_on code (by_place places start) m i (answer_at thread (trap_line thread.at.frame i) i.op stage.Before answer))
 
 -- and in a further round, which goes on as behind its check
 abbrev pub LockRoundFollows : Type 0
 LockRoundFollows =
-    (code : PlainCode) (start : Start) (next : Next) (at : Standing) (line p : ℕ) (access : Access) → at.granted ≡ Some access →
-    act code (placed start) next at line (op.Lock p) ≡ granted_play next at line (op.Lock p) access
+    (code : PlainCode) (places : ℕ → ℕ) (start : Start) (next : Next) (at : Standing) (line p : ℕ) (access : Access) → at.granted ≡ Some access →
+    act code (by_place places start) next at line (op.Lock p) ≡ granted_play next at line (op.Lock p) access
 
 abbrev pub ExchangeRoundFollows : Type 0
 ExchangeRoundFollows =
-    (code : PlainCode) (start : Start) (next : Next) (at : Standing) (line d w p e n : ℕ) (access : Access) → at.granted ≡ Some access →
-    act code (placed start) next at line (op.BoxCas d w p e n) ≡ granted_play next at line (op.BoxCas d w p e n) access
+    (code : PlainCode) (places : ℕ → ℕ) (start : Start) (next : Next) (at : Standing) (line d w p e n : ℕ) (access : Access) → at.granted ≡ Some access →
+    act code (by_place places start) next at line (op.BoxCas d w p e n) ≡ granted_play next at line (op.BoxCas d w p e n) access
 
 -- ---- steps
 
@@ -219,22 +220,22 @@ step_play code thread op play = play
 -- an instruction on registers: the thread goes on as the play does
 abbrev pub StepFollows : Type 0
 StepFollows =
-    (code : PlainCode) (start : Start) (m : ℕ) (i : Instruction) (thread : Thread) →
+    (code : PlainCode) (places : ℕ → ℕ) (start : Start) (m : ℕ) (i : Instruction) (thread : Thread) →
     thread.id ≡ start.id → thread.main ≡ (start.function == code.main) → want_at code thread i.op stage.Before ≡ want.Instruction →
-    stage_play code (placed start) (exec code (placed start) m) thread.at (trap_line thread.at.frame i) i.op stage.Before
-    ≡ step_play code thread i.op (plays_on code (placed start) m i (step_by code thread (trap_line thread.at.frame i) i.op))
+    stage_play code (by_place places start) (exec code (by_place places start) m) thread.at (trap_line thread.at.frame i) i.op stage.Before
+    ≡ step_play code thread i.op (plays_on code (by_place places start) m i (step_by code places thread (trap_line thread.at.frame i) i.op))
 
 -- ---- polls and beginnings
 
 -- a thread goes on after a poll as the play does
 abbrev pub PollFollows : Type 0
 PollFollows =
-    (code : PlainCode) (start : Start) (m : ℕ) (i : Instruction) (thread : Thread) → i.op ≡ op.Poll →
-    stage_play code (placed start) (exec code (placed start) m) thread.at (trap_line thread.at.frame i) i.op stage.Before
-    ≡ plays_on code (placed start) m i (thread_after_poll thread)
+    (code : PlainCode) (places : ℕ → ℕ) (start : Start) (m : ℕ) (i : Instruction) (thread : Thread) → i.op ≡ op.Poll →
+    stage_play code (by_place places start) (exec code (by_place places start) m) thread.at (trap_line thread.at.frame i) i.op stage.Before
+    ≡ plays_on code (by_place places start) m i (thread_after_poll thread)
 
 -- a thread that begins plays its function
 abbrev pub BeginFollows : Type 0
 BeginFollows =
-    (code : PlainCode) (start : Start) (m : ℕ) (f : PlainFunction) (old : Thread) → slice_get code.functions start.function ≡ Some f →
-    code_play m code (placed start) ≡ exec code (placed start) m (thread_after_begin code start.id start.function start.argument old).at
+    (code : PlainCode) (places : ℕ → ℕ) (start : Start) (m : ℕ) (f : PlainFunction) (old : Thread) → slice_get code.functions start.function ≡ Some f →
+    code_play m code (by_place places start) ≡ exec code (by_place places start) m (thread_after_begin code start.id start.function start.argument old).at

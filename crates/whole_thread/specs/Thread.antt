@@ -2,44 +2,37 @@
 --
 -- An object's number is the place of its first word, so its address is `place_address`. Before an instruction, and at each
 -- stage within one, the thread wants an event, a poll, or to carry the instruction out on its registers.
-use Rattle.std.specs.Prelude.{ℕ, zero, suc, ◌+◌, ◌*◌, ◌-◌, ◌%◌, ◌==◌, List, [], ◌∷◌, length, Bool, true, false, Option, Some, None, if◌then◌else◌, slice_get, Result, Ok, Err}
+use Rattle.std.specs.Prelude.{ℕ, ◌+◌, ◌*◌, ◌%◌, ◌==◌, List, [], ◌∷◌, Bool, true, false, Option, Some, None, if◌then◌else◌, slice_get, Result, Ok, Err}
 use Rattle.filc_num.specs.Integers.{bytes_of, convert_of}
 use Rattle.filc_num.specs.declared.integer.ArithFault.{ArithFault}
-use Rattle.filc_num.specs.declared.integer.IntType.TheVariants.{U64}
 use Rattle.filc_num.specs.declared.reason.Reason.{Reason}
-use Rattle.filc_num.specs.declared.reason.Reason.TheVariants.{NoCell, NotFunction, FunctionType, CallDepth, Abort}
+use Rattle.filc_num.specs.declared.reason.Reason.TheVariants.{NotFunction, FunctionType, CallDepth, Abort}
 use Rattle.whole_code.specs.declared.op.Op.{Op}
 use Rattle.whole_code.specs.declared.op.Op.TheVariants as op
 use Rattle.whole_code.specs.declared.op.Instruction.{Instruction}
 use Rattle.whole_code.specs.Plain.{PlainFunction, PlainCode, instruction_at}
 use Rattle.whole_code.specs.Numbers.{operator_at, type_at}
 use Rattle.ideal_machine.specs.declared.value.Half.{Half}
-use Rattle.ideal_machine.specs.declared.value.Half.TheVariants.{Object as ObjectHalf, Function as FunctionHalf}
+use Rattle.ideal_machine.specs.declared.value.Half.TheVariants.{Function as FunctionHalf}
 use Rattle.ideal_machine.specs.declared.value.Kept.TheVariants.{Plain as KeptPlain}
 use Rattle.ideal_machine.specs.declared.value.Found.{Found}
 use Rattle.ideal_machine.specs.declared.value.Found.TheVariants.{Plain as FoundPlain, Pair as FoundPair}
 use Rattle.ideal_machine.specs.declared.value.Value.{Value}
-use Rattle.ideal_machine.specs.declared.finish.Finish.TheVariants.{Exited, Trapped}
 use Rattle.ideal_machine.specs.declared.event.Access.{Access}
 use Rattle.ideal_machine.specs.declared.event.Seen.TheVariants.{Any, Found as SeenFound}
-use Rattle.ideal_machine.specs.declared.event.Event.{Event}
 use Rattle.ideal_machine.specs.declared.event.Event.TheVariants as event
-use Rattle.ideal_machine.specs.declared.event.Answer.{Answer}
-use Rattle.ideal_machine.specs.declared.event.Answer.TheVariants as answer
 use Rattle.ideal_machine.specs.Values.{integer}
 use Rattle.ideal_machine.specs.Phrases.{operator_result, reason_of, if_zero}
-use Rattle.ideal_machine.specs.Addresses.{object_pointer, function_pointer, pointer_of_int, advance, elements_between}
+use Rattle.ideal_machine.specs.Addresses.{object_pointer, function_pointer, pointer_of_int, advance}
 use Rattle.ideal_machine.specs.PointerAccess.{word_of, pair_of}
 use Rattle.ideal_machine.specs.Memory.{malloc_kind, home_kind}
-use Rattle.ideal_machine.specs.Threads.{minus_one, thread_kind}
+use Rattle.ideal_machine.specs.Threads.{thread_kind}
 use Rattle.whole_thread.specs.declared.stage.Want.{Want}
 use Rattle.whole_thread.specs.declared.stage.Want.TheVariants as want
-use Rattle.whole_thread.specs.declared.stage.Halt.{Halt}
-use Rattle.whole_thread.specs.declared.stage.Halt.TheVariants as halt
 use Rattle.whole_thread.specs.declared.stage.Stage.{Stage}
 use Rattle.whole_thread.specs.declared.stage.Stage.TheVariants as stage
-use Rattle.whole_thread.specs.Standing.{Frame, Caller, Standing, room, first_registers, trap_line, register, registers_from, with_register, at_index, onward}
-use Rattle.whole_thread.specs.Act.{operation_at, kinds_of, caller_at, entering, behind_call, made_number}
+use Rattle.whole_thread.specs.Standing.{Caller, Standing, room, first_registers, trap_line, register, registers_from, with_register, at_index, onward}
+use Rattle.whole_thread.specs.Act.{operation_at, kinds_of, caller_at, entering, behind_call}
 
 -- a thread: its id, whether its first function is `main`, where it stands, and the stage of the instruction there. Before
 -- one more round of an instruction it stands at what its check has granted
@@ -216,7 +209,7 @@ abbrev pub gets_result : Thread → (line d : ℕ) → Result ℕ ArithFault →
 gets_result thread line d (Ok n) = gets thread d (integer n)
 gets_result thread line d (Err fault) = at_stage thread (stage.Traps (reason_of fault) line)
 
--- ---- an instruction on registers
+-- ---- an instruction on registers; each static object has a place
 
 abbrev pub enters : Thread → (line d function : ℕ) → List Value → Option PlainFunction → Thread
 enters thread line d function arguments None = at_stage thread stage.Waits
@@ -245,38 +238,38 @@ abbrev pub returns_to : Thread → List Caller → Value → Thread
 returns_to thread [] v = thread
 returns_to thread (caller ∷ callers) v = before thread (behind_call caller callers v)
 
-abbrev pub step_by : PlainCode → Thread → (line : ℕ) → Op → Thread
-step_by code thread line (op.Const d constant) = gets thread d (integer constant)
-step_by code thread line (op.Move d a) = gets thread d (register thread.at a)
-step_by code thread line (op.StaticAt d n) = gets thread d (object_pointer place_address n)
-step_by code thread line (op.FunctionAt d f) = gets thread d (function_pointer f)
-step_by code thread line (op.Convert d a t) = gets thread d (integer (convert_of (register thread.at a).number (type_at t)))
-step_by code thread line (op.Binary d a b o t) =
+abbrev pub step_by : PlainCode → (places : ℕ → ℕ) → Thread → (line : ℕ) → Op → Thread
+step_by code places thread line (op.Const d constant) = gets thread d (integer constant)
+step_by code places thread line (op.Move d a) = gets thread d (register thread.at a)
+step_by code places thread line (op.StaticAt d n) = gets thread d (object_pointer place_address (places n))
+step_by code places thread line (op.FunctionAt d f) = gets thread d (function_pointer f)
+step_by code places thread line (op.Convert d a t) = gets thread d (integer (convert_of (register thread.at a).number (type_at t)))
+step_by code places thread line (op.Binary d a b o t) =
     gets_result thread line d (operator_result (operator_at o) (type_at t) (register thread.at a).number (register thread.at b).number)
-step_by code thread line (op.PointerAdd d a b bytes) =
+step_by code places thread line (op.PointerAdd d a b bytes) =
     gets thread d (advance (register thread.at a) ((register thread.at b).number * bytes))
-step_by code thread line (op.ToPointer d a) = gets thread d (pointer_of_int (register thread.at a))
-step_by code thread line (op.Jump target) = before thread (at_index thread.at target)
-step_by code thread line (op.JumpZero a target) =
+step_by code places thread line (op.ToPointer d a) = gets thread d (pointer_of_int (register thread.at a))
+step_by code places thread line (op.Jump target) = before thread (at_index thread.at target)
+step_by code places thread line (op.JumpZero a target) =
     if_zero (register thread.at a).number (before thread (at_index thread.at target)) (goes_on thread)
-step_by code thread line (op.Free a) = goes_on thread
-step_by code thread line (op.Call d f first count) = calls code thread line d f (registers_from thread.at first count)
-step_by code thread line (op.CallPointer d a first count kind) =
+step_by code places thread line (op.Free a) = goes_on thread
+step_by code places thread line (op.Call d f first count) = calls code thread line d f (registers_from thread.at first count)
+step_by code places thread line (op.CallPointer d a first count kind) =
     calls_half code thread line d kind (registers_from thread.at first count) (register thread.at a).half
-step_by code thread line (op.Return a) = returns_to thread thread.at.callers (register thread.at a)
-step_by code thread line (op.Spawn d a b) =
+step_by code places thread line (op.Return a) = returns_to thread thread.at.callers (register thread.at a)
+step_by code places thread line (op.Spawn d a b) =
     at_stage thread (stage.Traps (function_fault (kinds_of code) (register thread.at a).half) line)
-step_by code thread line (op.SelfId d) = gets thread d (integer thread.id)
-step_by code thread line op.Abort = at_stage thread (stage.Traps Abort line)
-step_by code thread line op = thread
+step_by code places thread line (op.SelfId d) = gets thread d (integer thread.id)
+step_by code places thread line op.Abort = at_stage thread (stage.Traps Abort line)
+step_by code places thread line op = thread
 
-abbrev pub step_at : PlainCode → Thread → Option Instruction → Thread
-step_at code thread None = thread
-step_at code thread (Some i) = step_by code thread (trap_line thread.at.frame i) i.op
+abbrev pub step_at : PlainCode → (places : ℕ → ℕ) → Thread → Option Instruction → Thread
+step_at code places thread None = thread
+step_at code places thread (Some i) = step_by code places thread (trap_line thread.at.frame i) i.op
 
 -- a thread that wants to carry out an instruction, after it
-abbrev pub thread_after_step : PlainCode → Thread → Thread
-thread_after_step code thread = step_at code thread (here code thread)
+abbrev pub thread_after_step : PlainCode → (places : ℕ → ℕ) → Thread → Thread
+thread_after_step code places thread = step_at code places thread (here code thread)
 
 -- a thread that wants to go on after a poll
 abbrev pub thread_after_poll : Thread → Thread

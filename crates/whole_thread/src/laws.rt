@@ -20,6 +20,8 @@ ghost use Rattle.whole_thread.specs.Worked.Calls.{DepthIsReached, DepthIsPassed}
 ghost use Rattle.whole_thread.specs.Worked.Calls.{TrapsHaveLines, FirstFunctionHasItsLine};
 ghost use Rattle.whole_thread.specs.Worked.Walks.{LoadWalks, StoreWalks, LockWalks, ExchangeWalks};
 ghost use Rattle.whole_thread.specs.Worked.Walks.{NamesWalk, RefusalWalks, CallsWalk, PollWalks};
+ghost use Rattle.whole_thread.specs.Worked.Walks.{StaticWalks};
+ghost use Rattle.whole_thread.specs.Worked.Walks.{LibraryRefusalWalks, LibraryStepWalks};
 ghost use Rattle.whole_thread.specs.PlaysOn.{GrantedFollows, StoredFollows, FoundFollows, ReadFollows};
 ghost use Rattle.whole_thread.specs.PlaysOn.{MatchFollows, SecondFollows, TrapFollows, BeforeFollows};
 ghost use Rattle.whole_thread.specs.PlaysOn.{LockRoundFollows, ExchangeRoundFollows, StepFollows};
@@ -120,6 +122,9 @@ pub fn threads_walk_from_event_to_event()
     ensures refusal { RefusalWalks }
     ensures calls { CallsWalk }
     ensures poll { PollWalks }
+    ensures statics { StaticWalks }
+    ensures library_refusal { LibraryRefusalWalks }
+    ensures library_step { LibraryStepWalks }
 {}
 
 /// Within an instruction a thread wants what the play of its code asks, and goes on as that does.

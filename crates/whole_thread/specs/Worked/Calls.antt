@@ -16,8 +16,8 @@ use Rattle.ideal_machine.specs.declared.event.Answer.TheVariants.{Refused, Done}
 use Rattle.ideal_machine.specs.Values.{integer}
 use Rattle.ideal_machine.specs.Play.{Behaviour, Call, Cut, Finished, Goes, Ends}
 use Rattle.ideal_machine.specs.Phrases.{trap}
-use Rattle.whole_thread.specs.Standing.{Frame, Caller, Standing, trap_line}
-use Rattle.whole_thread.specs.Act.{Next, entering, act}
+use Rattle.whole_thread.specs.Standing.{Caller, Standing}
+use Rattle.whole_thread.specs.Act.{by_number, Next, entering, act}
 use Rattle.whole_thread.specs.CodePlay.{code_events}
 use Rattle.whole_thread.specs.Worked.Setting.{base, user_line, function_of, returns_zero, code, start, into, function, standing, Traps}
 
@@ -30,7 +30,7 @@ code_of functions = record { functions = functions; statics = []; main = 0 }
 -- what a thread's code makes that begins with this function and argument, in at most 20 instructions
 abbrev pub thread_of : List PlainFunction → ℕ → Value → List Answer → Behaviour (Unit {0}) ℕ
 thread_of functions f argument answers =
-    code_events 20 (code_of functions) (record { id = 0; function = f; argument = argument; base = base }) answers
+    code_events 20 (code_of functions) (by_number (record { id = 0; function = f; argument = argument; base = base })) answers
 
 -- the program ended so, after these events and so many calls
 abbrev pub EndedAfter : Behaviour (Unit {0}) ℕ → List Event → (calls : ℕ) → Finish → Type 0

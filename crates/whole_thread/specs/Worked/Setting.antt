@@ -15,9 +15,8 @@ use Rattle.ideal_machine.specs.declared.event.Answer.{Answer}
 use Rattle.ideal_machine.specs.declared.event.Answer.TheVariants.{Done}
 use Rattle.ideal_machine.specs.Values.{integer}
 use Rattle.ideal_machine.specs.Play.{Finished, Log, fresh_log, Ends, run}
-use Rattle.ideal_machine.specs.Phrases.{Start}
 use Rattle.whole_thread.specs.Standing.{Standing, onward}
-use Rattle.whole_thread.specs.Act.{Next, act}
+use Rattle.whole_thread.specs.Act.{CodeStart, by_number, Next, act}
 
 -- ---- a setting: functions of kinds 1, 2 and 0, and objects of which each has its own thousand bytes
 
@@ -43,8 +42,8 @@ code = record {
 abbrev pub base : ℕ → ℕ
 base n = 65536 + 1024 * n
 
-abbrev pub start : Start
-start = record { id = 65; function = 0; argument = integer 0; base = base }
+abbrev pub start : CodeStart
+start = by_number (record { id = 65; function = 0; argument = integer 0; base = base })
 
 -- so many bytes of an object, from an offset
 abbrev pub bytes_at : (object offset width : ℕ) → Access

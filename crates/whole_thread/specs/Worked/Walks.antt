@@ -1,6 +1,6 @@
 -- Worked walks of a thread: what it wants, event by event, what it is answered, and where it stands then.
 use Rattle.std.specs.Prelude.{◌≡◌, ℕ, ◌+◌, ◌*◌, List, [], ◌∷◌, true, false, None, Some}
-use Rattle.filc_num.specs.declared.reason.Reason.TheVariants.{Bounds, Divide}
+use Rattle.filc_num.specs.declared.reason.Reason.TheVariants.{Bounds, Divide, NoCapability}
 use Rattle.whole_code.specs.declared.op.Op.{Op}
 use Rattle.whole_code.specs.declared.op.Op.TheVariants as op
 use Rattle.whole_code.specs.Plain.{PlainCode}
@@ -20,8 +20,7 @@ use Rattle.ideal_machine.specs.Values.{integer}
 use Rattle.whole_thread.specs.declared.stage.Want.TheVariants as want
 use Rattle.whole_thread.specs.declared.stage.Halt.TheVariants as halt
 use Rattle.whole_thread.specs.declared.stage.Stage.TheVariants as stage
-use Rattle.whole_thread.specs.Standing.{Standing}
-use Rattle.whole_thread.specs.Thread.{Thread, want_of, at_stage, goes_on, before, thread_after_begin, thread_after_step, thread_after_poll}
+use Rattle.whole_thread.specs.Thread.{Thread, want_of, at_stage, goes_on, thread_after_step, thread_after_poll}
 use Rattle.whole_thread.specs.Answers.{thread_after_answer}
 use Rattle.whole_thread.specs.Worked.Setting.{user_line, function_of, returns_zero}
 
@@ -55,10 +54,13 @@ pub record Exchange : Type 0 where
   pub answer : Answer
 
 -- a thread wants these events, one after another, and with these answers comes to another
+abbrev pub WalksIn : PlainCode → Thread → List Exchange → Thread → Type 0
+WalksIn code thread [] last = thread ≡ last
+WalksIn code thread (x ∷ more) last =
+    (want_of code thread ≡ want.Event x.event) × WalksIn code (thread_after_answer code thread x.answer) more last
+
 abbrev pub Walks : Op → Thread → List Exchange → Thread → Type 0
-Walks o thread [] last = thread ≡ last
-Walks o thread (x ∷ more) last =
-    (want_of (code_with o) thread ≡ want.Event x.event) × Walks o (thread_after_answer (code_with o) thread x.answer) more last
+Walks o = WalksIn (code_with o)
 
 -- a pointer of two halves is read
 abbrev pub LoadWalks : Type 0
@@ -126,13 +128,66 @@ RefusalWalks =
 abbrev pub CallsWalk : Type 0
 CallsWalk =
     let call = op.Call 3 1 0 1 in
-    let called = thread_after_step (code_with call) (thread_with (integer 42 ∷ [])) in
-    let returned = thread_after_step (code_with call) called in
+    let called = thread_after_step (code_with call) (λ n. n) (thread_with (integer 42 ∷ [])) in
+    let returned = thread_after_step (code_with call) (λ n. n) called in
     (want_of (code_with call) (thread_with (integer 42 ∷ [])) ≡ want.Instruction)
     × (called.at.frame ≡ record { function = 1; index = 0; called_at = Some 1; registers = integer 42 ∷ integer 0 ∷ integer 0 ∷ integer 0 ∷ [] })
     × (want_of (code_with call) called ≡ want.Instruction)
     × (returned ≡ goes_on (thread_with (integer 42 ∷ integer 0 ∷ integer 0 ∷ integer 0 ∷ [])))
     × Walks call returned (record { event = event.Exit 0; answer = answer.Done } ∷ []) (at_stage returned (stage.Over (halt.Finished (Exited 0))))
+
+-- `int g; int main(void) { return g; }`, where g is at this place
+abbrev pub static_code : PlainCode
+static_code = record {
+  functions = function_of 1 0 (user_line (op.StaticAt 0 0) ∷ user_line (op.LoadInt 0 0 5) ∷ user_line (op.Return 0) ∷ []) ∷ [];
+  statics = [];
+  main = 0;
+}
+
+abbrev pub static_place : ℕ → ℕ
+static_place n = 1048637
+
+-- a static object is named by its place, and not by its number
+abbrev pub StaticWalks : Type 0
+StaticWalks =
+    (want_of static_code (thread_with (integer 7 ∷ [])) ≡ want.Instruction)
+    × WalksIn static_code (thread_after_step static_code static_place (thread_with (integer 7 ∷ [])))
+    (record { event = event.Check (ObjectHalf 1048637) 8454632 4 false; answer = answer.Granted }
+    ∷ record { event = event.GetInt (bytes_at 1048637 0 4); answer = answer.Number 42 }
+    ∷ record { event = event.Exit 42; answer = answer.Done } ∷ [])
+    (at_stage (goes_on (goes_on (thread_with (integer 42 ∷ [])))) (stage.Over (halt.Finished (Exited 42))))
+
+-- `main` calls a function of a header at line 3, which has this instruction at its line 1
+abbrev pub library_code : Op → PlainCode
+library_code o = record {
+  functions = function_of 1 0 (record { line = 3; library = false; op = op.Call 0 1 0 1 } ∷ returns_zero)
+  ∷ function_of 2 1 (record { line = 1; library = true; op = o } ∷ returns_zero) ∷ [];
+  statics = [];
+  main = 0;
+}
+
+-- `main` has called it
+abbrev pub in_library : Op → Thread
+in_library o = thread_after_step (library_code o) (λ n. n) (thread_with (integer 0 ∷ []))
+
+-- a refusal in library text traps at the line of the user's call
+abbrev pub LibraryRefusalWalks : Type 0
+LibraryRefusalWalks =
+    let load = op.LoadInt 0 0 1 in
+    WalksIn (library_code load) (in_library load)
+    (record { event = event.Check Nothing 0 1 false; answer = answer.Refused NoCapability }
+    ∷ record { event = event.Trap NoCapability 3; answer = answer.Done } ∷ [])
+    (at_stage (in_library load) (stage.Over (halt.Finished (Trapped NoCapability 3))))
+
+-- and so does an instruction on registers there
+abbrev pub LibraryStepWalks : Type 0
+LibraryStepWalks =
+    let division = op.Binary 0 0 0 3 5 in
+    let divided = thread_after_step (library_code division) (λ n. n) (in_library division) in
+    (want_of (library_code division) (in_library division) ≡ want.Instruction)
+    × WalksIn (library_code division) divided
+    (record { event = event.Trap Divide 3; answer = answer.Done } ∷ [])
+    (at_stage divided (stage.Over (halt.Finished (Trapped Divide 3))))
 
 abbrev pub PollWalks : Type 0
 PollWalks =
