@@ -43,7 +43,7 @@ use Rattle.whole_thread.specs.Act.{operation_at, sets, gives, does, sets_both, f
 use Rattle.whole_thread.specs.CodePlay.{exec}
 use Rattle.whole_thread.specs.Thread.{Thread, place_address, spawn_by, spawn_of, return_of, at_stage, goes_on, gets, gets_result, want_at}
 use Rattle.whole_thread.specs.Answers.{unless_refused as trap_or, granted_stage, checked, gets_size, gets_home, when_done, leaves_stage, gets_int, locks, looks, again, opened_pointer, gets_pointer, gets_both, compares, replaces, answer_at}
-use Rattle.whole_thread.specs.PlaysOn.{by_place, stage_play, found_play, plays_on, AsksThen, GrantedFollows, StoredFollows, SecondFollows, FoundFollows, ReadFollows, MatchFollows, TrapFollows, BeforeFollows, LockRoundFollows, ExchangeRoundFollows}
+use Rattle.whole_thread.specs.PlaysOn.{by_place, stage_play, found_play, plays_on, AsksThen, Follows, LockRoundFollows, ExchangeRoundFollows}
 
 -- ---- wants
 
@@ -81,16 +81,15 @@ asked query next event thread go plays wish goes = record {
   goes = λ answer reply fits. goes reply ∙ sym (ap (λ (o : Option (Reply query)). plays (by_reply o thread go)) fits);
 }
 
-abbrev made : (line : ℕ) → (library : Bool) → Op → Instruction
+abbrev pub made : (line : ℕ) → (library : Bool) → Op → Instruction
 made line library o = record { line = line; library = library; op = o }
 
--- at a stage of an instruction
-abbrev FollowsOp : Stage → Op → Type 0
+-- at a stage within an instruction, which is no step
+abbrev pub FollowsOp : Stage → Op → Type 0
 FollowsOp s o =
-    (code : PlainCode) (places : ℕ → ℕ) (start : Start) (m l : ℕ) (library : Bool) (thread : Thread) (event : Event) →
-    want_at code thread o s ≡ want.Event event →
-    AsksThen (stage_play code (by_place places start) (exec code (by_place places start) m) thread.at (trap_line thread.at.frame (made l library o)) o s) event
-    (λ answer. plays_on code (by_place places start) m (made l library o) (answer_at thread (trap_line thread.at.frame (made l library o)) o s answer))
+    (code : PlainCode) (places : ℕ → ℕ) (start : Start) (m l : ℕ) (library : Bool) (thread step : Thread) →
+    Follows code (by_place places start) m (made l library o) thread s (λ answer. answer_at thread (trap_line thread.at.frame (made l library o)) o s answer)
+    step (want_at code thread o s)
 
 -- ---- behind a granted check
 
@@ -114,43 +113,37 @@ lock_goes p access code places start m l library thread Taken = refl
 lock_goes p access code places start m l library thread (CheckedAgain None) = refl
 lock_goes p access code places start m l library thread (CheckedAgain (Some reason)) = refl
 
-granted_op : (access : Access) (o : Op) → FollowsOp (stage.Granted access) o
-granted_op access (op.LoadInt d p t) code places start m l library thread event wish =
-    asked (Makes (GetInt access)) _ event thread (gets_int thread d t) (plays_on code (by_place places start) m (made l library (op.LoadInt d p t))) wish (λ n. refl)
-granted_op access (op.StoreInt p a t) code places start m l library thread event wish =
-    asked (Makes (SetInt access (register thread.at a).number)) _ event thread (λ _. goes_on thread) (plays_on code (by_place places start) m (made l library (op.StoreInt p a t))) wish (λ n. refl)
-granted_op access (op.RmwInt d p a o t u) code places start m l library thread event wish =
-    asked (Makes (RmwInt access (operation_at o t u) (register thread.at a).number)) _ event thread (gets_int thread d t) (plays_on code (by_place places start) m (made l library (op.RmwInt d p a o t u))) wish (λ n. refl)
-granted_op access (op.CasInt d p e n t) code places start m l library thread event wish =
-    asked (Makes (CasInt access (register thread.at e).number (register thread.at n).number)) _ event thread (λ found. gets thread d (integer found)) (plays_on code (by_place places start) m (made l library (op.CasInt d p e n t))) wish (λ n. refl)
-granted_op access (op.Lock p) code places start m l library thread event wish =
-    asked (Locks (register thread.at p).half (register thread.at p).number access.object access.offset) _ event thread (locks thread (trap_line thread.at.frame (made l library (op.Lock p))) access) (plays_on code (by_place places start) m (made l library (op.Lock p))) wish
+pub granted_op : (access : Access) (o : Op) → FollowsOp (stage.Granted access) o
+granted_op access (op.LoadInt d p t) code places start m l library thread step =
+    asked (Makes (GetInt access)) _ _ thread (gets_int thread d t) (plays_on code (by_place places start) m (made l library (op.LoadInt d p t))) refl (λ n. refl)
+granted_op access (op.StoreInt p a t) code places start m l library thread step =
+    asked (Makes (SetInt access (register thread.at a).number)) _ _ thread (λ _. goes_on thread) (plays_on code (by_place places start) m (made l library (op.StoreInt p a t))) refl (λ n. refl)
+granted_op access (op.RmwInt d p a o t u) code places start m l library thread step =
+    asked (Makes (RmwInt access (operation_at o t u) (register thread.at a).number)) _ _ thread (gets_int thread d t) (plays_on code (by_place places start) m (made l library (op.RmwInt d p a o t u))) refl (λ n. refl)
+granted_op access (op.CasInt d p e n t) code places start m l library thread step =
+    asked (Makes (CasInt access (register thread.at e).number (register thread.at n).number)) _ _ thread (λ found. gets thread d (integer found)) (plays_on code (by_place places start) m (made l library (op.CasInt d p e n t))) refl (λ n. refl)
+granted_op access (op.Lock p) code places start m l library thread step =
+    asked (Locks (register thread.at p).half (register thread.at p).number access.object access.offset) _ _ thread (locks thread (trap_line thread.at.frame (made l library (op.Lock p))) access) (plays_on code (by_place places start) m (made l library (op.Lock p))) refl
     (lock_goes p access code places start m l library thread)
-granted_op access (op.LoadPointer d p) code places start m l library thread event wish =
-    asked (Makes (GetHalf access.object (word_of access))) _ event thread (λ found. at_stage thread (stage.Found access found)) (plays_on code (by_place places start) m (made l library (op.LoadPointer d p))) wish (λ n. refl)
-granted_op access (op.StorePointer p a) code places start m l library thread event wish =
-    asked (Makes (SetInt access (register thread.at a).number)) _ event thread (λ _. at_stage thread (stage.Stored access)) (plays_on code (by_place places start) m (made l library (op.StorePointer p a))) wish (λ n. refl)
-granted_op access (op.BoxStore p a) code places start m l library thread event wish =
-    asked (Makes (SetHalf access.object (word_of access) (pair_of (register thread.at a)))) _ event thread (λ _. goes_on thread) (plays_on code (by_place places start) m (made l library (op.BoxStore p a))) wish (λ n. refl)
-granted_op access (op.BoxSwap d p a) code places start m l library thread event wish =
-    asked (Makes (CasHalf access.object (word_of access) Any (pair_of (register thread.at a)))) _ event thread (λ found. at_stage thread (stage.Found access found)) (plays_on code (by_place places start) m (made l library (op.BoxSwap d p a))) wish (λ n. refl)
-granted_op access (op.BoxCas d w p e n) code places start m l library thread event wish =
-    asked (Makes (GetHalf access.object (word_of access))) _ event thread (λ found. at_stage thread (stage.Found access found)) (plays_on code (by_place places start) m (made l library (op.BoxCas d w p e n))) wish
+granted_op access (op.LoadPointer d p) code places start m l library thread step =
+    asked (Makes (GetHalf access.object (word_of access))) _ _ thread (λ found. at_stage thread (stage.Found access found)) (plays_on code (by_place places start) m (made l library (op.LoadPointer d p))) refl (λ n. refl)
+granted_op access (op.StorePointer p a) code places start m l library thread step =
+    asked (Makes (SetInt access (register thread.at a).number)) _ _ thread (λ _. at_stage thread (stage.Stored access)) (plays_on code (by_place places start) m (made l library (op.StorePointer p a))) refl (λ n. refl)
+granted_op access (op.BoxStore p a) code places start m l library thread step =
+    asked (Makes (SetHalf access.object (word_of access) (pair_of (register thread.at a)))) _ _ thread (λ _. goes_on thread) (plays_on code (by_place places start) m (made l library (op.BoxStore p a))) refl (λ n. refl)
+granted_op access (op.BoxSwap d p a) code places start m l library thread step =
+    asked (Makes (CasHalf access.object (word_of access) Any (pair_of (register thread.at a)))) _ _ thread (λ found. at_stage thread (stage.Found access found)) (plays_on code (by_place places start) m (made l library (op.BoxSwap d p a))) refl (λ n. refl)
+granted_op access (op.BoxCas d w p e n) code places start m l library thread step =
+    asked (Makes (GetHalf access.object (word_of access))) _ _ thread (λ found. at_stage thread (stage.Found access found)) (plays_on code (by_place places start) m (made l library (op.BoxCas d w p e n))) refl
     (exchange_goes d w p e n access code places start m l library thread)
-granted_op access o code places start m l library thread event wish = no_event event wish
-
-pub granted_follows : GrantedFollows
-granted_follows access code places start m i thread event wish = granted_op access i.op code places start m i.line i.library thread event wish
+granted_op access o code places start m l library thread step = refl
 
 -- ---- behind a store of an integer
 
-stored_op : (access : Access) (o : Op) → FollowsOp (stage.Stored access) o
-stored_op access (op.StorePointer p a) code places start m l library thread event wish =
-    asked (Makes (SetHalf access.object (word_of access) (KeptPlain (register thread.at a).half))) _ event thread (λ _. goes_on thread) (plays_on code (by_place places start) m (made l library (op.StorePointer p a))) wish (λ n. refl)
-stored_op access o code places start m l library thread event wish = no_event event wish
-
-pub stored_follows : StoredFollows
-stored_follows access code places start m i thread event wish = stored_op access i.op code places start m i.line i.library thread event wish
+pub stored_op : (access : Access) (o : Op) → FollowsOp (stage.Stored access) o
+stored_op access (op.StorePointer p a) code places start m l library thread step =
+    asked (Makes (SetHalf access.object (word_of access) (KeptPlain (register thread.at a).half))) _ _ thread (λ _. goes_on thread) (plays_on code (by_place places start) m (made l library (op.StorePointer p a))) refl (λ n. refl)
+stored_op access o code places start m l library thread step = refl
 
 -- ---- the second of two pointers
 
@@ -161,36 +154,30 @@ looked_at :
 looked_at d a b o code places start m l library thread (Ok n) = refl
 looked_at d a b o code places start m l library thread (Err fault) = refl
 
-second_op : (o : Op) → FollowsOp stage.NamedFirst o
-second_op (op.PointerSub d a b bytes) code places start m l library thread event wish =
-    asked (Makes (Name (register thread.at b).half (register thread.at b).number)) _ event thread (λ _. looks thread (trap_line thread.at.frame (made l library (op.PointerSub d a b bytes))) (op.PointerSub d a b bytes)) (plays_on code (by_place places start) m (made l library (op.PointerSub d a b bytes))) wish (λ n. refl)
-second_op (op.PointerCompare d a b o) code places start m l library thread event wish =
-    asked (Makes (Name (register thread.at b).half (register thread.at b).number)) _ event thread (λ _. looks thread (trap_line thread.at.frame (made l library (op.PointerCompare d a b o))) (op.PointerCompare d a b o)) (plays_on code (by_place places start) m (made l library (op.PointerCompare d a b o))) wish
+pub second_op : (o : Op) → FollowsOp stage.NamedFirst o
+second_op (op.PointerSub d a b bytes) code places start m l library thread step =
+    asked (Makes (Name (register thread.at b).half (register thread.at b).number)) _ _ thread (λ _. looks thread (trap_line thread.at.frame (made l library (op.PointerSub d a b bytes))) (op.PointerSub d a b bytes)) (plays_on code (by_place places start) m (made l library (op.PointerSub d a b bytes))) refl (λ n. refl)
+second_op (op.PointerCompare d a b o) code places start m l library thread step =
+    asked (Makes (Name (register thread.at b).half (register thread.at b).number)) _ _ thread (λ _. looks thread (trap_line thread.at.frame (made l library (op.PointerCompare d a b o))) (op.PointerCompare d a b o)) (plays_on code (by_place places start) m (made l library (op.PointerCompare d a b o))) refl
     (λ n. looked_at d a b o code places start m l library thread _)
-second_op o code places start m l library thread event wish = no_event event wish
-
-pub second_follows : SecondFollows
-second_follows code places start m i thread event wish = second_op i.op code places start m i.line i.library thread event wish
+second_op o code places start m l library thread step = refl
 
 -- ---- behind a half that was found
 
-found_op : (access : Access) (found : Found) (o : Op) → FollowsOp (stage.Found access found) o
-found_op access (FoundPlain half) (op.LoadPointer d p) code places start m l library thread event wish =
-    asked (Makes (GetInt access)) _ event thread (λ n. gets_pointer thread (op.LoadPointer d p) access (FoundPlain half) (record { number = n; half = half })) (plays_on code (by_place places start) m (made l library (op.LoadPointer d p))) wish (λ n. refl)
-found_op access (FoundPair pair) (op.LoadPointer d p) code places start m l library thread event wish =
-    asked (Makes (Open pair)) _ event thread (λ opened. gets_pointer thread (op.LoadPointer d p) access (FoundPair pair) (opened_pointer opened)) (plays_on code (by_place places start) m (made l library (op.LoadPointer d p))) wish (λ n. refl)
-found_op access (FoundPlain half) (op.BoxSwap d p a) code places start m l library thread event wish =
-    asked (Makes (GetInt access)) _ event thread (λ n. gets_pointer thread (op.BoxSwap d p a) access (FoundPlain half) (record { number = n; half = half })) (plays_on code (by_place places start) m (made l library (op.BoxSwap d p a))) wish (λ n. refl)
-found_op access (FoundPair pair) (op.BoxSwap d p a) code places start m l library thread event wish =
-    asked (Makes (Open pair)) _ event thread (λ opened. gets_pointer thread (op.BoxSwap d p a) access (FoundPair pair) (opened_pointer opened)) (plays_on code (by_place places start) m (made l library (op.BoxSwap d p a))) wish (λ n. refl)
-found_op access (FoundPlain half) (op.BoxCas d w p e n) code places start m l library thread event wish =
-    asked (Makes (GetInt access)) _ event thread (λ n. gets_pointer thread (op.BoxCas d w p e n) access (FoundPlain half) (record { number = n; half = half })) (plays_on code (by_place places start) m (made l library (op.BoxCas d w p e n))) wish (λ n. refl)
-found_op access (FoundPair pair) (op.BoxCas d w p e n) code places start m l library thread event wish =
-    asked (Makes (Open pair)) _ event thread (λ opened. gets_pointer thread (op.BoxCas d w p e n) access (FoundPair pair) (opened_pointer opened)) (plays_on code (by_place places start) m (made l library (op.BoxCas d w p e n))) wish (λ n. refl)
-found_op access found o code places start m l library thread event wish = no_event event wish
-
-pub found_follows : FoundFollows
-found_follows access found code places start m i thread event wish = found_op access found i.op code places start m i.line i.library thread event wish
+pub found_op : (access : Access) (found : Found) (o : Op) → FollowsOp (stage.Found access found) o
+found_op access (FoundPlain half) (op.LoadPointer d p) code places start m l library thread step =
+    asked (Makes (GetInt access)) _ _ thread (λ n. gets_pointer thread (op.LoadPointer d p) access (FoundPlain half) (record { number = n; half = half })) (plays_on code (by_place places start) m (made l library (op.LoadPointer d p))) refl (λ n. refl)
+found_op access (FoundPair pair) (op.LoadPointer d p) code places start m l library thread step =
+    asked (Makes (Open pair)) _ _ thread (λ opened. gets_pointer thread (op.LoadPointer d p) access (FoundPair pair) (opened_pointer opened)) (plays_on code (by_place places start) m (made l library (op.LoadPointer d p))) refl (λ n. refl)
+found_op access (FoundPlain half) (op.BoxSwap d p a) code places start m l library thread step =
+    asked (Makes (GetInt access)) _ _ thread (λ n. gets_pointer thread (op.BoxSwap d p a) access (FoundPlain half) (record { number = n; half = half })) (plays_on code (by_place places start) m (made l library (op.BoxSwap d p a))) refl (λ n. refl)
+found_op access (FoundPair pair) (op.BoxSwap d p a) code places start m l library thread step =
+    asked (Makes (Open pair)) _ _ thread (λ opened. gets_pointer thread (op.BoxSwap d p a) access (FoundPair pair) (opened_pointer opened)) (plays_on code (by_place places start) m (made l library (op.BoxSwap d p a))) refl (λ n. refl)
+found_op access (FoundPlain half) (op.BoxCas d w p e n) code places start m l library thread step =
+    asked (Makes (GetInt access)) _ _ thread (λ n. gets_pointer thread (op.BoxCas d w p e n) access (FoundPlain half) (record { number = n; half = half })) (plays_on code (by_place places start) m (made l library (op.BoxCas d w p e n))) refl (λ n. refl)
+found_op access (FoundPair pair) (op.BoxCas d w p e n) code places start m l library thread step =
+    asked (Makes (Open pair)) _ _ thread (λ opened. gets_pointer thread (op.BoxCas d w p e n) access (FoundPair pair) (opened_pointer opened)) (plays_on code (by_place places start) m (made l library (op.BoxCas d w p e n))) refl (λ n. refl)
+found_op access found o code places start m l library thread step = refl
 
 -- ---- behind the pointer that was found
 
@@ -203,14 +190,11 @@ read_goes :
 read_goes d w p e n access found pointer code places start m l library thread true = refl
 read_goes d w p e n access found pointer code places start m l library thread false = refl
 
-read_op : (access : Access) (found : Found) (pointer : Value) (o : Op) → FollowsOp (stage.Read access found pointer) o
-read_op access found pointer (op.BoxCas d w p e n) code places start m l library thread event wish =
-    asked (Makes (Name (register thread.at e).half (register thread.at e).number)) _ event thread (λ _. compares thread (op.BoxCas d w p e n) access found pointer) (plays_on code (by_place places start) m (made l library (op.BoxCas d w p e n))) wish
+pub read_op : (access : Access) (found : Found) (pointer : Value) (o : Op) → FollowsOp (stage.Read access found pointer) o
+read_op access found pointer (op.BoxCas d w p e n) code places start m l library thread step =
+    asked (Makes (Name (register thread.at e).half (register thread.at e).number)) _ _ thread (λ _. compares thread (op.BoxCas d w p e n) access found pointer) (plays_on code (by_place places start) m (made l library (op.BoxCas d w p e n))) refl
     (λ _. read_goes d w p e n access found pointer code places start m l library thread (pointer.number == (register thread.at e).number))
-read_op access found pointer o code places start m l library thread event wish = no_event event wish
-
-pub read_follows : ReadFollows
-read_follows access found pointer code places start m i thread event wish = read_op access found pointer i.op code places start m i.line i.library thread event wish
+read_op access found pointer o code places start m l library thread step = refl
 
 -- ---- behind an address that is the expected one
 
@@ -221,23 +205,17 @@ replace_goes :
 replace_goes d w p e n access found pointer code places start m l library thread true = refl
 replace_goes d w p e n access found pointer code places start m l library thread false = refl
 
-match_op : (access : Access) (found : Found) (pointer : Value) (o : Op) → FollowsOp (stage.Matches access found pointer) o
-match_op access found pointer (op.BoxCas d w p e n) code places start m l library thread event wish =
-    asked (Makes (CasHalf access.object (word_of access) (SeenFound found) (pair_of (register thread.at n)))) _ event thread (replaces thread (op.BoxCas d w p e n) access found pointer) (plays_on code (by_place places start) m (made l library (op.BoxCas d w p e n))) wish
+pub match_op : (access : Access) (found : Found) (pointer : Value) (o : Op) → FollowsOp (stage.Matches access found pointer) o
+match_op access found pointer (op.BoxCas d w p e n) code places start m l library thread step =
+    asked (Makes (CasHalf access.object (word_of access) (SeenFound found) (pair_of (register thread.at n)))) _ _ thread (replaces thread (op.BoxCas d w p e n) access found pointer) (plays_on code (by_place places start) m (made l library (op.BoxCas d w p e n))) refl
     (λ there. replace_goes d w p e n access found pointer code places start m l library thread (same_found there found))
-match_op access found pointer o code places start m l library thread event wish = no_event event wish
-
-pub match_follows : MatchFollows
-match_follows access found pointer code places start m i thread event wish = match_op access found pointer i.op code places start m i.line i.library thread event wish
+match_op access found pointer o code places start m l library thread step = refl
 
 -- ---- at a trap
 
-trap_op : (reason : Reason) (line : ℕ) (o : Op) → FollowsOp (stage.Traps reason line) o
-trap_op reason line o code places start m l library thread event wish =
-    asked (Makes (Trap reason line)) _ event thread (λ _. at_stage thread (stage.Over (halt.Finished (Trapped reason line)))) (plays_on code (by_place places start) m (made l library o)) wish (λ _. refl)
-
-pub trap_follows : TrapFollows
-trap_follows reason line code places start m i thread event wish = trap_op reason line i.op code places start m i.line i.library thread event wish
+pub trap_op : (reason : Reason) (line : ℕ) (o : Op) → FollowsOp (stage.Traps reason line) o
+trap_op reason line o code places start m l library thread step =
+    asked (Makes (Trap reason line)) _ _ thread (λ _. at_stage thread (stage.Over (halt.Finished (Trapped reason line)))) (plays_on code (by_place places start) m (made l library o)) refl (λ _. refl)
 
 -- ---- before an instruction: its check
 
@@ -346,14 +324,14 @@ return_asks o v code places start m l library thread event main (caller ∷ call
 
 -- ---- before an instruction
 
-abbrev FollowsBefore : Op → Type 0
+abbrev pub FollowsBefore : Op → Type 0
 FollowsBefore o =
     (code : PlainCode) (places : ℕ → ℕ) (start : Start) (m l : ℕ) (library : Bool) (thread : Thread) (event : Event) →
     thread.at.granted ≡ None → thread.main ≡ (start.function == code.main) → want_at code thread o stage.Before ≡ want.Event event →
     AsksThen (stage_play code (by_place places start) (exec code (by_place places start) m) thread.at (trap_line thread.at.frame (made l library o)) o stage.Before) event
     (λ answer. plays_on code (by_place places start) m (made l library o) (answer_at thread (trap_line thread.at.frame (made l library o)) o stage.Before answer))
 
-before_op : (o : Op) → FollowsBefore o
+pub before_op : (o : Op) → FollowsBefore o
 before_op (op.PointerSub d a b bytes) code places start m l library thread event none main wish =
     asked (Makes (Name (register thread.at a).half (register thread.at a).number)) _ event thread (λ _. at_stage thread stage.NamedFirst) (plays_on code (by_place places start) m (made l library (op.PointerSub d a b bytes))) wish (λ _. refl)
 before_op (op.PointerCompare d a b o) code places start m l library thread event none main wish =
@@ -413,9 +391,6 @@ before_op (op.Exit a) code places start m l library thread event none main wish 
     asked (Makes (Exit ((register thread.at a).number % 256))) _ event thread (λ _. at_stage thread (leaves_stage true (register thread.at a))) (plays_on code (by_place places start) m (made l library (op.Exit a))) wish (λ _. refl)
 before_op op.Poll code places start m l library thread event none main wish = absurd (subst NoEvent wish tt)
 before_op o code places start m l library thread event none main wish = no_event event wish
-
-pub before_follows : BeforeFollows
-before_follows code places start m i thread event none main wish = before_op i.op code places start m i.line i.library thread event none main wish
 
 -- ---- one more round
 

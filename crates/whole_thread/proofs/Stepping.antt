@@ -24,9 +24,9 @@ use Rattle.whole_thread.specs.declared.stage.Want.TheVariants as want
 use Rattle.whole_thread.specs.declared.stage.Stage.TheVariants as stage
 use Rattle.whole_thread.specs.Standing.{Caller, room, register, registers_from, trap_line, onward, at_index}
 use Rattle.whole_thread.specs.Act.{sets, gives, does, jumps, kinds_of, returns, calls as call_play, enters as enter_play}
-use Rattle.whole_thread.specs.CodePlay.{exec, exec_first}
-use Rattle.whole_thread.specs.Thread.{Thread, spawn_by, spawn_of, return_of, at_stage, before, goes_on, gets_result, enters, calls, calls_kind, calls_half, returns_to, function_fault, want_at, step_by, begins_at}
-use Rattle.whole_thread.specs.PlaysOn.{by_place, stage_play, plays_on, jump_play, kind_play, half_play, step_play, StepFollows, PollFollows, BeginFollows}
+use Rattle.whole_thread.specs.CodePlay.{exec}
+use Rattle.whole_thread.specs.Thread.{Thread, spawn_by, spawn_of, return_of, at_stage, before, goes_on, gets_result, enters, calls, calls_kind, calls_half, returns_to, function_fault, want_at, step_by}
+use Rattle.whole_thread.specs.PlaysOn.{by_place, stage_play, plays_on, jump_play, kind_play, half_play, step_play}
 
 abbrev NoStep : Want → Type 0
 NoStep want.Instruction = ⊥
@@ -142,13 +142,13 @@ spawn_goes o d line argument code places start m l library thread Nothing wish =
 spawn_goes o d line argument code places start m l library thread Freed wish = refl
 spawn_goes o d line argument code places start m l library thread (ObjectHalf n) wish = refl
 
-abbrev StepsOp : Op → Type 0
+abbrev pub StepsOp : Op → Type 0
 StepsOp o =
     (code : PlainCode) (places : ℕ → ℕ) (start : Start) (m l : ℕ) (library : Bool) (thread : Thread) → thread.id ≡ start.id → thread.main ≡ (start.function == code.main) → want_at code thread o stage.Before ≡ want.Instruction →
     stage_play code (by_place places start) (exec code (by_place places start) m) thread.at (trap_line thread.at.frame (made l library o)) o stage.Before
     ≡ step_play code thread o (plays_on code (by_place places start) m (made l library o) (step_by code places thread (trap_line thread.at.frame (made l library o)) o))
 
-step_op : (o : Op) → StepsOp o
+pub step_op : (o : Op) → StepsOp o
 step_op (op.Const d constant) code places start m l library thread id main wish = refl
 step_op (op.Move d a) code places start m l library thread id main wish = refl
 step_op (op.StaticAt d n) code places start m l library thread id main wish = refl
@@ -187,13 +187,3 @@ step_op (op.Out a) code places start m l library thread id main wish = no_step _
 step_op (op.Input d) code places start m l library thread id main wish = no_step _ wish
 step_op (op.Join d a) code places start m l library thread id main wish = no_step _ wish
 step_op (op.Exit a) code places start m l library thread id main wish = no_step _ wish
-
-pub step_follows : StepFollows
-step_follows code places start m i thread id main wish = step_op i.op code places start m i.line i.library thread id main wish
-
-pub poll_follows : PollFollows
-poll_follows code places start m i thread is = subst (λ (o : Op). stage_play code (by_place places start) (exec code (by_place places start) m) thread.at (trap_line thread.at.frame i) o stage.Before ≡ exec code (by_place places start) m (onward thread.at)) (sym is) refl
-
-pub begin_follows : BeginFollows
-begin_follows code places start m f old is =
-    subst (λ (g : Option PlainFunction). exec_first code (by_place places start) m g ≡ exec code (by_place places start) m (begins_at code start.id start.function start.argument g old).at) (sym is) refl

@@ -1,8 +1,7 @@
 -- What a thread's state means: the play of what is left of its instruction, and of the code behind it.
-use Rattle.std.specs.Prelude.{◌≡◌, ℕ, ◌==◌, nat_lt, List, slice_get, false, Option, Some, None, if◌then◌else◌}
+use Rattle.std.specs.Prelude.{◌≡◌, ℕ, suc, ◌==◌, nat_lt, List, slice_get, false, Option, Some, None, if◌then◌else◌}
 use Rattle.filc_num.specs.Integers.{convert_of}
 use Rattle.filc_num.specs.declared.integer.IntType.TheVariants.{U64}
-use Rattle.filc_num.specs.declared.reason.Reason.{Reason}
 use Rattle.whole_code.specs.declared.op.Op.{Op}
 use Rattle.whole_code.specs.declared.op.Op.TheVariants as op
 use Rattle.whole_code.specs.declared.op.Instruction.{Instruction}
@@ -29,12 +28,13 @@ use Rattle.whole_thread.specs.declared.stage.Halt.{Halt}
 use Rattle.whole_thread.specs.declared.stage.Halt.TheVariants as halt
 use Rattle.whole_thread.specs.declared.stage.Stage.{Stage}
 use Rattle.whole_thread.specs.declared.stage.Stage.TheVariants as stage
+use Rattle.whole_thread.specs.declared.stage.Want.{Want}
 use Rattle.whole_thread.specs.declared.stage.Want.TheVariants as want
 use Rattle.whole_thread.specs.Standing.{Standing, trap_line, register}
 use Rattle.whole_thread.specs.Act.{CodeStart, Next, sets, gives, does, found_or_again, locks, sets_both, exchanges, operation_at, kinds_of, act}
-use Rattle.whole_thread.specs.CodePlay.{exec, code_play}
-use Rattle.whole_thread.specs.Thread.{Thread, place_address, want_at, step_by, thread_after_poll, thread_after_begin}
-use Rattle.whole_thread.specs.Answers.{answer_at}
+use Rattle.whole_thread.specs.CodePlay.{exec, beginning, code_play}
+use Rattle.whole_thread.specs.Thread.{Thread, place_address, stage_of, here, want_of, thread_after_step, thread_after_poll, thread_after_begin}
+use Rattle.whole_thread.specs.Answers.{thread_after_answer}
 
 -- ---- what is left of an instruction
 
@@ -141,59 +141,6 @@ abbrev pub by_place : (places : ℕ → ℕ) → Start → CodeStart
 by_place places start =
     record { id = start.id; function = start.function; argument = start.argument; base = place_address; names = places }
 
--- at a stage within an instruction: the event that the thread wants is what the play asks, and with each answer that fits the
--- thread goes on as the play does
-abbrev pub FollowsAt : Stage → Type 0
-FollowsAt s =
-    (code : PlainCode) (places : ℕ → ℕ) (start : Start) (m : ℕ) (i : Instruction) (thread : Thread) (event : Event) →
-    want_at code thread i.op s ≡ want.Event event →
-    AsksThen (stage_play code (by_place places start) (exec code (by_place places start) m) thread.at (trap_line thread.at.frame i) i.op s) event
-    (λ answer. plays_on code (by_place places start) m i (answer_at thread (trap_line thread.at.frame i) i.op s answer))
-
--- so behind a granted check, and whatever was answered then
-abbrev pub GrantedFollows : Type 0
-GrantedFollows = (access : Access) → FollowsAt (stage.Granted access)
-
-abbrev pub StoredFollows : Type 0
-StoredFollows = (access : Access) → FollowsAt (stage.Stored access)
-
--- and behind the name of the first of two pointers
-abbrev pub SecondFollows : Type 0
-SecondFollows = FollowsAt stage.NamedFirst
-
--- behind a half that was found, and the pointer that it is of
-abbrev pub FoundFollows : Type 0
-FoundFollows = (access : Access) (found : Found) → FollowsAt (stage.Found access found)
-
-abbrev pub ReadFollows : Type 0
-ReadFollows = (access : Access) (found : Found) (pointer : Value) → FollowsAt (stage.Read access found pointer)
-
-abbrev pub MatchFollows : Type 0
-MatchFollows = (access : Access) (found : Found) (pointer : Value) → FollowsAt (stage.Matches access found pointer)
-
--- and at a trap
-abbrev pub TrapFollows : Type 0
-TrapFollows = (reason : Reason) (line : ℕ) → FollowsAt (stage.Traps reason line)
-
--- before an instruction that isn't in a further round, in a thread of this code
-abbrev pub BeforeFollows : Type 0
-BeforeFollows =
-    (code : PlainCode) (places : ℕ → ℕ) (start : Start) (m : ℕ) (i : Instruction) (thread : Thread) (event : Event) →
-    thread.at.granted ≡ None → thread.main ≡ (start.function == code.main) → want_at code thread i.op stage.Before ≡ want.Event event →
-    AsksThen (stage_play code (by_place places start) (exec code (by_place places start) m) thread.at (trap_line thread.at.frame i) i.op stage.Before) event
-    (λ answer. plays_on code (by_place places start) m i (answer_at thread (trap_line thread.at.frame i) i.op stage.Before answer))
-
--- and in a further round, which goes on as behind its check
-abbrev pub LockRoundFollows : Type 0
-LockRoundFollows =
-    (code : PlainCode) (places : ℕ → ℕ) (start : Start) (next : Next) (at : Standing) (line p : ℕ) (access : Access) → at.granted ≡ Some access →
-    act code (by_place places start) next at line (op.Lock p) ≡ granted_play next at line (op.Lock p) access
-
-abbrev pub ExchangeRoundFollows : Type 0
-ExchangeRoundFollows =
-    (code : PlainCode) (places : ℕ → ℕ) (start : Start) (next : Next) (at : Standing) (line d w p e n : ℕ) (access : Access) → at.granted ≡ Some access →
-    act code (by_place places start) next at line (op.BoxCas d w p e n) ≡ granted_play next at line (op.BoxCas d w p e n) access
-
 -- ---- steps
 
 -- a jump is counted unless it leads forward
@@ -217,25 +164,64 @@ step_play code thread (op.Call d f first count) play = Call play
 step_play code thread (op.CallPointer d a first count kind) play = half_play (kinds_of code) kind (register thread.at a).half play
 step_play code thread op play = play
 
--- an instruction on registers: the thread goes on as the play does
-abbrev pub StepFollows : Type 0
-StepFollows =
+-- ---- what a thread follows
+
+-- what is left of the instruction i at a stage of it, and then at most m
+abbrev pub rest_play : PlainCode → CodeStart → ℕ → Instruction → Thread → Stage → Phrase ℕ
+rest_play code start m i thread s = stage_play code start (exec code start m) thread.at (trap_line thread.at.frame i) i.op s
+
+-- the play of a thread that wants nothing: it has ended, or it waits for ever
+abbrev pub stop_play : Stage → Phrase ℕ
+stop_play (stage.Over halt) = halt_play halt
+stop_play s = Stops Waits
+
+-- what a thread wants is what its play does: an event is asked, and with each answer that fits both go on alike; an
+-- instruction on registers is a step of the play; a poll makes nothing; and a thread that wants nothing has stopped
+abbrev pub Follows : PlainCode → CodeStart → ℕ → Instruction → Thread → Stage → (Answer → Thread) → (step : Thread) → Want → Type 0
+Follows code start m i thread s after step (want.Event event) =
+    AsksThen (rest_play code start m i thread s) event (λ answer. plays_on code start m i (after answer))
+Follows code start m i thread s after step want.Instruction =
+    (s ≡ stage.Before) × (rest_play code start m i thread s ≡ step_play code thread i.op (plays_on code start m i step))
+Follows code start m i thread s after step want.Poll =
+    (s ≡ stage.Before) × (rest_play code start m i thread s ≡ plays_on code start m i (thread_after_poll thread))
+Follows code start m i thread s after step want.Stopped = rest_play code start m i thread s ≡ stop_play s
+
+-- a thread of this code that began so
+pub record IsThreadOf (code : PlainCode) (start : Start) (thread : Thread) : Type 0 where
+  pub id : thread.id ≡ start.id
+  pub main : thread.main ≡ (start.function == code.main)
+
+-- a thread follows the play of its code, wherever it stands at an instruction
+abbrev pub ThreadsFollow : Type 0
+ThreadsFollow =
     (code : PlainCode) (places : ℕ → ℕ) (start : Start) (m : ℕ) (i : Instruction) (thread : Thread) →
-    thread.id ≡ start.id → thread.main ≡ (start.function == code.main) → want_at code thread i.op stage.Before ≡ want.Instruction →
-    stage_play code (by_place places start) (exec code (by_place places start) m) thread.at (trap_line thread.at.frame i) i.op stage.Before
-    ≡ step_play code thread i.op (plays_on code (by_place places start) m i (step_by code places thread (trap_line thread.at.frame i) i.op))
+    IsThreadOf code start thread → here code thread ≡ Some i →
+    Follows code (by_place places start) m i thread (stage_of thread) (λ answer. thread_after_answer code thread answer)
+    (thread_after_step code places thread) (want_of code thread)
 
--- ---- polls and beginnings
+-- where there is no instruction, which well-formed code leads to nowhere, it wants nothing, and its play waits
+abbrev pub StopsOutside : Type 0
+StopsOutside =
+    (code : PlainCode) (start : CodeStart) (m : ℕ) (thread : Thread) → here code thread ≡ None →
+    (want_of code thread ≡ want.Stopped) × (exec code start (suc m) thread.at ≡ Stops Waits)
 
--- a thread goes on after a poll as the play does
-abbrev pub PollFollows : Type 0
-PollFollows =
-    (code : PlainCode) (places : ℕ → ℕ) (start : Start) (m : ℕ) (i : Instruction) (thread : Thread) → i.op ≡ op.Poll →
-    stage_play code (by_place places start) (exec code (by_place places start) m) thread.at (trap_line thread.at.frame i) i.op stage.Before
-    ≡ plays_on code (by_place places start) m i (thread_after_poll thread)
+-- a further round goes on as behind its check
+abbrev pub LockRoundFollows : Type 0
+LockRoundFollows =
+    (code : PlainCode) (places : ℕ → ℕ) (start : Start) (next : Next) (at : Standing) (line p : ℕ) (access : Access) → at.granted ≡ Some access →
+    act code (by_place places start) next at line (op.Lock p) ≡ granted_play next at line (op.Lock p) access
 
--- a thread that begins plays its function
+abbrev pub ExchangeRoundFollows : Type 0
+ExchangeRoundFollows =
+    (code : PlainCode) (places : ℕ → ℕ) (start : Start) (next : Next) (at : Standing) (line d w p e n : ℕ) (access : Access) → at.granted ≡ Some access →
+    act code (by_place places start) next at line (op.BoxCas d w p e n) ≡ granted_play next at line (op.BoxCas d w p e n) access
+
+-- ---- beginnings
+
+-- a thread that begins has its id, is `main` where its function is, and plays its function from the first instruction on
 abbrev pub BeginFollows : Type 0
 BeginFollows =
     (code : PlainCode) (places : ℕ → ℕ) (start : Start) (m : ℕ) (f : PlainFunction) (old : Thread) → slice_get code.functions start.function ≡ Some f →
-    code_play m code (by_place places start) ≡ exec code (by_place places start) m (thread_after_begin code start.id start.function start.argument old).at
+    let new = thread_after_begin code start.id start.function start.argument old in
+    IsThreadOf code start new × (new.stage ≡ stage.Before) × (new.at ≡ beginning (by_place places start) f)
+    × (code_play m code (by_place places start) ≡ exec code (by_place places start) m new.at)

@@ -106,7 +106,7 @@ want_before code thread (op.Join d a) = want.Event (event.Join (register thread.
 want_before code thread (op.Exit a) = want.Event (event.Exit ((register thread.at a).number % 256))
 want_before code thread op = want.Instruction
 
--- behind a granted check
+-- behind a granted check. A thread comes to a stage only by an instruction that has it; elsewhere it would wait
 abbrev pub want_granted : Thread → Op → Access → Want
 want_granted thread (op.LoadInt d p t) access = want.Event (event.GetInt access)
 want_granted thread (op.StoreInt p a t) access = want.Event (event.SetInt access (register thread.at a).number)
@@ -122,7 +122,7 @@ want_granted thread (op.BoxStore p a) access =
 want_granted thread (op.BoxSwap d p a) access =
     want.Event (event.CasHalf access.object (word_of access) Any (pair_of (register thread.at a)))
 want_granted thread (op.BoxCas d w p e n) access = want.Event (event.GetHalf access.object (word_of access))
-want_granted thread op access = want.Instruction
+want_granted thread op access = want.Stopped
 
 -- the pointer of a half
 abbrev pub want_pointer : Access → Found → Want
@@ -133,29 +133,29 @@ abbrev pub want_found : Op → Access → Found → Want
 want_found (op.LoadPointer d p) access found = want_pointer access found
 want_found (op.BoxSwap d p a) access found = want_pointer access found
 want_found (op.BoxCas d w p e n) access found = want_pointer access found
-want_found op access found = want.Instruction
+want_found op access found = want.Stopped
 
 -- the half of a plain store
 abbrev pub want_stored : Thread → Op → Access → Want
 want_stored thread (op.StorePointer p a) access =
     want.Event (event.SetHalf access.object (word_of access) (KeptPlain (register thread.at a).half))
-want_stored thread op access = want.Instruction
+want_stored thread op access = want.Stopped
 
 -- the expected pointer is named, and then replaced
 abbrev pub want_read : Thread → Op → Want
 want_read thread (op.BoxCas d w p e n) = name_of (register thread.at e)
-want_read thread op = want.Instruction
+want_read thread op = want.Stopped
 
 abbrev pub want_matching : Thread → Op → Access → Found → Want
 want_matching thread (op.BoxCas d w p e n) access found =
     want.Event (event.CasHalf access.object (word_of access) (SeenFound found) (pair_of (register thread.at n)))
-want_matching thread op access found = want.Instruction
+want_matching thread op access found = want.Stopped
 
 -- the second pointer is named
 abbrev pub want_second : Thread → Op → Want
 want_second thread (op.PointerSub d a b bytes) = name_of (register thread.at b)
 want_second thread (op.PointerCompare d a b o) = name_of (register thread.at b)
-want_second thread op = want.Instruction
+want_second thread op = want.Stopped
 
 abbrev pub want_at : PlainCode → Thread → Op → Stage → Want
 want_at code thread op stage.Before = want_before code thread op

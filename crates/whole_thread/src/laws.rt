@@ -22,10 +22,8 @@ ghost use Rattle.whole_thread.specs.Worked.Walks.{LoadWalks, StoreWalks, LockWal
 ghost use Rattle.whole_thread.specs.Worked.Walks.{NamesWalk, RefusalWalks, CallsWalk, PollWalks};
 ghost use Rattle.whole_thread.specs.Worked.Walks.{StaticWalks};
 ghost use Rattle.whole_thread.specs.Worked.Walks.{LibraryRefusalWalks, LibraryStepWalks};
-ghost use Rattle.whole_thread.specs.PlaysOn.{GrantedFollows, StoredFollows, FoundFollows, ReadFollows};
-ghost use Rattle.whole_thread.specs.PlaysOn.{MatchFollows, SecondFollows, TrapFollows, BeforeFollows};
-ghost use Rattle.whole_thread.specs.PlaysOn.{LockRoundFollows, ExchangeRoundFollows, StepFollows};
-ghost use Rattle.whole_thread.specs.PlaysOn.{PollFollows, BeginFollows};
+ghost use Rattle.whole_thread.specs.PlaysOn.{ThreadsFollow, StopsOutside, BeginFollows};
+ghost use Rattle.whole_thread.specs.PlaysOn.{LockRoundFollows, ExchangeRoundFollows};
 
 /// Registers are set without an event, and a poll makes none.
 pub fn registers_are_set()
@@ -127,27 +125,19 @@ pub fn threads_walk_from_event_to_event()
     ensures library_step { LibraryStepWalks }
 {}
 
-/// Within an instruction a thread wants what the play of its code asks, and goes on as that does.
-pub fn threads_follow_within_an_instruction()
-    ensures granted { GrantedFollows }
-    ensures stored { StoredFollows }
-    ensures found { FoundFollows }
-    ensures read { ReadFollows }
-    ensures matches { MatchFollows }
-    ensures second { SecondFollows }
-    ensures trap { TrapFollows }
+/// A thread follows the play of its code, by what it wants: an event, a step, a poll or nothing.
+pub fn threads_follow_their_play()
+    ensures follow { ThreadsFollow }
+    ensures outside { StopsOutside }
 {}
 
-/// So it does before an instruction, and in each further round of one.
-pub fn threads_follow_before_an_instruction()
-    ensures before { BeforeFollows }
+/// A further round of a lock, or of an exchange of a pointer, goes on as behind its check.
+pub fn rounds_go_on_behind_their_check()
     ensures lock { LockRoundFollows }
     ensures exchange { ExchangeRoundFollows }
 {}
 
-/// An instruction on registers is a step of the play; so is a poll, and a beginning is its start.
-pub fn threads_follow_by_steps()
-    ensures step { StepFollows }
-    ensures poll { PollFollows }
+/// A thread that begins has its id, knows whether it is `main`, and stands before its function.
+pub fn threads_stay_as_they_begin()
     ensures begin { BeginFollows }
 {}
