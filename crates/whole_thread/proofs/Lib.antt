@@ -1,3 +1,4 @@
 mod Following
 mod Stepping
 mod Wanting
+mod Keeping

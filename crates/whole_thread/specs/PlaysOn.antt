@@ -225,3 +225,10 @@ BeginFollows =
     let new = thread_after_begin code start.id start.function start.argument old in
     IsThreadOf code start new × (new.stage ≡ stage.Before) × (new.at ≡ beginning (by_place places start) f)
     × (code_play m code (by_place places start) ≡ exec code (by_place places start) m new.at)
+
+-- by each answer, step and poll a thread stays one that began so
+abbrev pub ThreadsStay : Type 0
+ThreadsStay =
+    (code : PlainCode) (places : ℕ → ℕ) (start : Start) (thread : Thread) (answer : Answer) → IsThreadOf code start thread →
+    IsThreadOf code start (thread_after_answer code thread answer) × IsThreadOf code start (thread_after_step code places thread)
+    × IsThreadOf code start (thread_after_poll thread)

@@ -22,7 +22,7 @@ ghost use Rattle.whole_thread.specs.Worked.Walks.{LoadWalks, StoreWalks, LockWal
 ghost use Rattle.whole_thread.specs.Worked.Walks.{NamesWalk, RefusalWalks, CallsWalk, PollWalks};
 ghost use Rattle.whole_thread.specs.Worked.Walks.{StaticWalks};
 ghost use Rattle.whole_thread.specs.Worked.Walks.{LibraryRefusalWalks, LibraryStepWalks};
-ghost use Rattle.whole_thread.specs.PlaysOn.{ThreadsFollow, StopsOutside, BeginFollows};
+ghost use Rattle.whole_thread.specs.PlaysOn.{ThreadsFollow, StopsOutside, BeginFollows, ThreadsStay};
 ghost use Rattle.whole_thread.specs.PlaysOn.{LockRoundFollows, ExchangeRoundFollows};
 
 /// Registers are set without an event, and a poll makes none.
@@ -137,7 +137,8 @@ pub fn rounds_go_on_behind_their_check()
     ensures exchange { ExchangeRoundFollows }
 {}
 
-/// A thread that begins has its id, knows whether it is `main`, and stands before its function.
+/// A thread begins with its id, as `main` or not, before its function; and keeps what it began with.
 pub fn threads_stay_as_they_begin()
     ensures begin { BeginFollows }
+    ensures stay { ThreadsStay }
 {}
