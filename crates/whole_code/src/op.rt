@@ -112,7 +112,8 @@ pub enum Op {
         t: u32,
         u: u32,
     },
-    /// d becomes the integer of type t at p, in place of which comes n where it is e, in one step.
+    /// d becomes the bytes of the integer of type t at p, as an unsigned number; where they are
+    /// those of e, n comes in their place, in one step.
     CasInt {
         d: u32,
         p: u32,
@@ -141,8 +142,9 @@ pub enum Op {
         p: u32,
         a: u32,
     },
-    /// d becomes the pointer at p, in place of which comes n where its address is that of e, in one
-    /// step; w becomes 1 where it did, else 0.
+    /// d becomes the pointer at p; where its address is that of e, n comes in its place, and w
+    /// becomes 1, else 0. Each round looks first and then exchanges in one step; one that is lost to
+    /// another thread is made again.
     BoxCas {
         d: u32,
         w: u32,

@@ -1,6 +1,6 @@
 -- What a thread makes of the answer to the event that it wants.
 --
--- An answer that doesn't fit the event is no reply to it, and changes nothing.
+-- An answer that doesn't fit the event is no reply to it, and no law speaks of it.
 use Rattle.std.specs.Prelude.{ℕ, ◌-◌, ◌%◌, ◌==◌, Bool, true, false, Option, Some, None, Result, Ok, Err, if◌then◌else◌}
 use Rattle.filc_num.specs.Integers.{bytes_of, convert_of}
 use Rattle.filc_num.specs.declared.integer.IntType.TheVariants.{U64}
@@ -41,7 +41,8 @@ abbrev pub unless_refused : Thread → (line : ℕ) → Thread → Option Reason
 unless_refused thread line on None = on
 unless_refused thread line on (Some reason) = at_stage thread (stage.Traps reason line)
 
--- the access of an object's bytes; a check is granted to no other half
+-- the access of an object's bytes; a check is granted to no other half, and to no address before the object, where the
+-- difference is 0
 abbrev pub granted_stage : Half → (address width : ℕ) → Stage
 granted_stage (ObjectHalf n) address width =
     stage.Granted (record { object = n; offset = address - place_address n; width = width })
