@@ -1,6 +1,6 @@
 -- What a thread wants is what its play does, wherever it stands.
 use Rattle.std.proofs.Common.{◌≡◌, ◌==◌, ℕ, zero, suc, List, [], ◌∷◌, slice_get, Bool, true, false, Option, Some, None, refl, sym, subst}
-use Rattle.std.specs.Prelude.{if◌then◌else◌}
+use Rattle.std.specs.Prelude.{IsSomeAnd, if◌then◌else◌}
 use Rattle.whole_code.specs.declared.op.Op.{Op}
 use Rattle.whole_code.specs.declared.op.Op.TheVariants as op
 use Rattle.whole_code.specs.declared.op.Instruction.{Instruction}
@@ -20,12 +20,12 @@ use Rattle.whole_thread.specs.declared.stage.Want.TheVariants as want
 use Rattle.whole_thread.specs.declared.stage.Stage.{Stage}
 use Rattle.whole_thread.specs.declared.stage.Stage.TheVariants as stage
 use Rattle.whole_thread.specs.Standing.{Caller, register, trap_line}
-use Rattle.whole_thread.specs.Act.{CodeStart, kinds_of}
+use Rattle.whole_thread.specs.Act.{CodeStart, kinds_of, act}
 use Rattle.whole_thread.specs.CodePlay.{act_at, exec, exec_first, beginning}
 use Rattle.whole_thread.specs.Thread.{Thread, spawn_by, spawn_of, return_of, want_before, want_at, want_by, stage_in_round, stage_of, step_by, step_at, begins_at}
 use Rattle.whole_thread.specs.Answers.{answer_at, answer_by}
-use Rattle.whole_thread.specs.PlaysOn.{by_place, rest_play, step_play, plays_on, AsksThen, Follows, IsThreadOf, ThreadsFollow, StopsOutside, BeginFollows}
-use Rattle.whole_thread.proofs.Following.{made, granted_op, stored_op, second_op, found_op, read_op, match_op, trap_op, before_op}
+use Rattle.whole_thread.specs.PlaysOn.{by_place, rest_play, step_play, plays_on, AsksThen, Follows, IsThreadOf, IsMadeInRounds, KeepsRounds, CodeGoesOnHere, ThreadsFollow, StopsOutside, BeginFollows}
+use Rattle.whole_thread.proofs.Following.{lock_round_follows, exchange_round_follows, made, granted_op, stored_op, second_op, found_op, read_op, match_op, trap_op, before_op}
 use Rattle.whole_thread.proofs.Stepping.{step_op}
 
 -- ---- before an instruction that is no poll an event is wanted, or a step
@@ -140,6 +140,39 @@ threads_follow code places start m i thread is stands =
     (step_at code places thread g) (want_by code thread g)) (sym stands)
     (stage_any thread.at.granted thread.stage code places start m i thread refl is)
 
+-- ---- in rounds
+
+in_round_op :
+    (o : Op) (access : Access) (code : PlainCode) (places : ℕ → ℕ) (start : Start) (m l : ℕ) (library : Bool) (thread : Thread) →
+    thread.at.granted ≡ Some access → IsMadeInRounds o →
+    act code (by_place places start) (exec code (by_place places start) m) thread.at (trap_line thread.at.frame (made l library o)) o
+    ≡ rest_play code (by_place places start) m (made l library o) thread (stage.Granted access)
+in_round_op (op.Lock p) access code places start m l library thread some is =
+    lock_round_follows code places start (exec code (by_place places start) m) thread.at (trap_line thread.at.frame (made l library (op.Lock p))) p access some
+in_round_op (op.BoxCas d w p e n) access code places start m l library thread some is =
+    exchange_round_follows code places start (exec code (by_place places start) m) thread.at (trap_line thread.at.frame (made l library (op.BoxCas d w p e n))) d w p e n access some
+in_round_op o access code places start m l library thread some is = absurd is
+
+goes_on_by :
+    (g : Option Access) (code : PlainCode) (places : ℕ → ℕ) (start : Start) (m : ℕ) (i : Instruction) (thread : Thread) →
+    thread.at.granted ≡ g → ((access : Access) → g ≡ Some access → IsMadeInRounds i.op) →
+    act code (by_place places start) (exec code (by_place places start) m) thread.at (trap_line thread.at.frame i) i.op
+    ≡ rest_play code (by_place places start) m i thread (stage_in_round g stage.Before)
+goes_on_by None code places start m i thread is rounds = refl
+goes_on_by (Some access) code places start m i thread is rounds =
+    in_round_op i.op access code places start m i.line i.library thread is (rounds access refl)
+
+pub code_goes_on_here : CodeGoesOnHere
+code_goes_on_here code places start m i thread rounds stands before =
+    subst (λ (g : Option Instruction). act_at code (by_place places start) (exec code (by_place places start) m) thread.at g ≡ rest_play code (by_place places start) m i thread (stage_of thread)) (sym stands)
+    (subst (λ (s : Stage). act code (by_place places start) (exec code (by_place places start) m) thread.at (trap_line thread.at.frame i) i.op ≡ rest_play code (by_place places start) m i thread (stage_in_round thread.at.granted s)) (sym before)
+    (goes_on_by thread.at.granted code places start m i thread refl
+    (λ access some. subst (λ (g : Option Instruction). IsSomeAnd g (λ (i : Instruction). IsMadeInRounds i.op)) stands (rounds access some))))
+
+abbrev IsNone : Option Access → Type 0
+IsNone None = Unit {0}
+IsNone (Some access) = ⊥
+
 -- ---- outside, and at the beginning
 
 pub stops_outside : StopsOutside
@@ -149,7 +182,8 @@ stops_outside code start m thread nothing =
 pub begin_follows : BeginFollows
 begin_follows code places start m f old is =
     subst (λ (g : Option PlainFunction). IsThreadOf code start (begins_at code start.id start.function start.argument g old)
+    × KeepsRounds code (begins_at code start.id start.function start.argument g old)
     × ((begins_at code start.id start.function start.argument g old).stage ≡ stage.Before)
     × ((begins_at code start.id start.function start.argument g old).at ≡ beginning (by_place places start) f)
     × (exec_first code (by_place places start) m g ≡ exec code (by_place places start) m (begins_at code start.id start.function start.argument g old).at)) (sym is)
-    (record { id = refl; main = refl }, refl, refl, refl)
+    (record { id = refl; main = refl }, (λ access some. absurd (subst IsNone some tt)), refl, refl, refl)

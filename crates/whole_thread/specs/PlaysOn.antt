@@ -1,5 +1,5 @@
 -- What a thread's state means: the play of what is left of its instruction, and of the code behind it.
-use Rattle.std.specs.Prelude.{◌≡◌, ℕ, suc, ◌==◌, nat_lt, List, slice_get, false, Option, Some, None, if◌then◌else◌}
+use Rattle.std.specs.Prelude.{◌≡◌, ℕ, suc, ◌==◌, nat_lt, List, slice_get, false, Option, Some, None, IsSomeAnd, if◌then◌else◌}
 use Rattle.filc_num.specs.Integers.{convert_of}
 use Rattle.filc_num.specs.declared.integer.IntType.TheVariants.{U64}
 use Rattle.whole_code.specs.declared.op.Op.{Op}
@@ -205,6 +205,26 @@ StopsOutside =
     (code : PlainCode) (start : CodeStart) (m : ℕ) (thread : Thread) → here code thread ≡ None →
     (want_of code thread ≡ want.Stopped) × (exec code start (suc m) thread.at ≡ Stops Waits)
 
+-- ---- rounds
+
+-- a lock, and a compare and exchange of a pointer, are made in rounds
+abbrev pub IsMadeInRounds : Op → Type 0
+IsMadeInRounds (op.Lock p) = Unit {0}
+IsMadeInRounds (op.BoxCas d w p e n) = Unit {0}
+IsMadeInRounds o = ⊥
+
+-- a thread is in a further round of no other instruction
+abbrev pub KeepsRounds : PlainCode → Thread → Type 0
+KeepsRounds code thread =
+    (access : Access) → thread.at.granted ≡ Some access → IsSomeAnd (here code thread) (λ (i : Instruction). IsMadeInRounds i.op)
+
+-- before an instruction, and before a further round of it, the play of the code is what is left of the instruction
+abbrev pub CodeGoesOnHere : Type 0
+CodeGoesOnHere =
+    (code : PlainCode) (places : ℕ → ℕ) (start : Start) (m : ℕ) (i : Instruction) (thread : Thread) →
+    KeepsRounds code thread → here code thread ≡ Some i → thread.stage ≡ stage.Before →
+    exec code (by_place places start) (suc m) thread.at ≡ rest_play code (by_place places start) m i thread (stage_of thread)
+
 -- a further round goes on as behind its check
 abbrev pub LockRoundFollows : Type 0
 LockRoundFollows =
@@ -223,7 +243,7 @@ abbrev pub BeginFollows : Type 0
 BeginFollows =
     (code : PlainCode) (places : ℕ → ℕ) (start : Start) (m : ℕ) (f : PlainFunction) (old : Thread) → slice_get code.functions start.function ≡ Some f →
     let new = thread_after_begin code start.id start.function start.argument old in
-    IsThreadOf code start new × (new.stage ≡ stage.Before) × (new.at ≡ beginning (by_place places start) f)
+    IsThreadOf code start new × KeepsRounds code new × (new.stage ≡ stage.Before) × (new.at ≡ beginning (by_place places start) f)
     × (code_play m code (by_place places start) ≡ exec code (by_place places start) m new.at)
 
 -- by each answer, step and poll a thread stays one that began so
@@ -232,3 +252,10 @@ ThreadsStay =
     (code : PlainCode) (places : ℕ → ℕ) (start : Start) (thread : Thread) (answer : Answer) → IsThreadOf code start thread →
     IsThreadOf code start (thread_after_answer code thread answer) × IsThreadOf code start (thread_after_step code places thread)
     × IsThreadOf code start (thread_after_poll thread)
+
+-- and in a further round of no instruction that isn't made in rounds
+abbrev pub RoundsStay : Type 0
+RoundsStay =
+    (code : PlainCode) (places : ℕ → ℕ) (thread : Thread) (answer : Answer) → KeepsRounds code thread →
+    KeepsRounds code (thread_after_answer code thread answer) × KeepsRounds code (thread_after_step code places thread)
+    × KeepsRounds code (thread_after_poll thread)

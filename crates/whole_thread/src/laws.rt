@@ -24,6 +24,7 @@ ghost use Rattle.whole_thread.specs.Worked.Walks.{StaticWalks};
 ghost use Rattle.whole_thread.specs.Worked.Walks.{LibraryRefusalWalks, LibraryStepWalks};
 ghost use Rattle.whole_thread.specs.PlaysOn.{ThreadsFollow, StopsOutside, BeginFollows, ThreadsStay};
 ghost use Rattle.whole_thread.specs.PlaysOn.{LockRoundFollows, ExchangeRoundFollows};
+ghost use Rattle.whole_thread.specs.PlaysOn.{CodeGoesOnHere, RoundsStay};
 
 /// Registers are set without an event, and a poll makes none.
 pub fn registers_are_set()
@@ -135,10 +136,12 @@ pub fn threads_follow_their_play()
 pub fn rounds_go_on_behind_their_check()
     ensures lock { LockRoundFollows }
     ensures exchange { ExchangeRoundFollows }
+    ensures here { CodeGoesOnHere }
 {}
 
-/// A thread begins with its id, as `main` or not, before its function; and keeps what it began with.
+/// A thread begins with its id, as `main` or not, before its function, and stays so.
 pub fn threads_stay_as_they_begin()
     ensures begin { BeginFollows }
     ensures stay { ThreadsStay }
+    ensures rounds { RoundsStay }
 {}
