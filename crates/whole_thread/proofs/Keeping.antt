@@ -27,7 +27,7 @@ use Rattle.whole_thread.specs.Standing.{Standing, Caller, room, trap_line, regis
 use Rattle.whole_thread.specs.Act.{kinds_of}
 use Rattle.whole_thread.specs.Thread.{Thread, at_stage, before, goes_on, gets_result, enters, calls, calls_kind, calls_half, returns_to, step_by, step_at, here, stage_of}
 use Rattle.whole_thread.specs.Answers.{unless_refused, gets_size, gets_home, locks, gets_pointer, reads, gets_both, compares, replaces, again, looks, answer_before, answer_granted, answer_at, answer_by}
-use Rattle.whole_thread.specs.PlaysOn.{IsThreadOf, IsMadeInRounds, KeepsRounds, ThreadsStay, RoundsStay}
+use Rattle.whole_thread.specs.PlaysOn.{IsThreadOf, IsWithin, StandsWithin, IsMadeInRounds, KeepsRounds, ThreadsStay, RoundsStay}
 
 -- what holds of a thread wherever its instruction leads it
 record Stays (o : Op) (thread : Thread) (P : Thread → Type 0) : Type 0 where
@@ -224,6 +224,25 @@ threads_stay code places start thread answer is =
     (answer_by_keeps thread (IsThreadOf code start) (here code thread) (id_stays code start thread (here code thread) is) answer,
     step_at_keeps code places thread (IsThreadOf code start) (here code thread) (id_stays code start thread (here code thread) is),
     record { id = is.id; main = is.main })
+
+-- ---- within an instruction
+
+abbrev StandsAs : Thread → Thread → Type 0
+StandsAs old new = IsWithin new.stage → new.at ≡ old.at
+
+stands_by : (thread : Thread) (i : Option Instruction) → StaysBy thread (StandsAs thread) i
+stands_by thread None = λ is. refl
+stands_by thread (Some i) = record {
+  same = λ is. refl;
+  within = λ s is. refl;
+  moves = λ at none is. absurd is;
+  rounds = λ made access is. absurd is;
+}
+
+pub stands_within : StandsWithin
+stands_within code places thread answer =
+    (answer_by_keeps thread (StandsAs thread) (here code thread) (stands_by thread (here code thread)) answer,
+    step_at_keeps code places thread (StandsAs thread) (here code thread) (stands_by thread (here code thread)))
 
 -- ---- rounds
 

@@ -24,7 +24,7 @@ use Rattle.whole_thread.specs.Act.{CodeStart, kinds_of, act}
 use Rattle.whole_thread.specs.CodePlay.{act_at, exec, exec_first, beginning}
 use Rattle.whole_thread.specs.Thread.{Thread, spawn_by, spawn_of, return_of, want_before, want_at, want_by, stage_in_round, stage_of, step_by, step_at, begins_at}
 use Rattle.whole_thread.specs.Answers.{answer_at, answer_by}
-use Rattle.whole_thread.specs.PlaysOn.{by_place, rest_play, step_play, plays_on, AsksThen, Follows, IsThreadOf, IsMadeInRounds, KeepsRounds, CodeGoesOnHere, ThreadsFollow, StopsOutside, BeginFollows}
+use Rattle.whole_thread.specs.PlaysOn.{by_place, rest_play, step_play, plays_on, AsksThen, Follows, IsThreadOf, IsWithin, IsMadeInRounds, KeepsRounds, CodeGoesOnHere, ThreadsFollow, StopsOutside, BeginFollows}
 use Rattle.whole_thread.proofs.Following.{lock_round_follows, exchange_round_follows, made, granted_op, stored_op, second_op, found_op, read_op, match_op, trap_op, before_op}
 use Rattle.whole_thread.proofs.Stepping.{step_op}
 
@@ -97,10 +97,6 @@ before_any o code places start m l library thread none is =
     (step_by code places thread (trap_line thread.at.frame (made l library o)) o) (want_before code thread o) (before_moves code thread o)
     (λ event wish. before_op o code places start m l library thread event none is.main wish)
     (λ wish. step_op o code places start m l library thread is.id is.main wish)
-
-abbrev IsWithin : Stage → Type 0
-IsWithin stage.Before = ⊥
-IsWithin s = Unit {0}
 
 within_any :
     (s : Stage) (code : PlainCode) (places : ℕ → ℕ) (start : Start) (m : ℕ) (i : Instruction) (thread : Thread) → IsWithin s →

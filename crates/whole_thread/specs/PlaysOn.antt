@@ -205,6 +205,19 @@ StopsOutside =
     (code : PlainCode) (start : CodeStart) (m : ℕ) (thread : Thread) → here code thread ≡ None →
     (want_of code thread ≡ want.Stopped) × (exec code start (suc m) thread.at ≡ Stops Waits)
 
+-- ---- within an instruction
+
+abbrev pub IsWithin : Stage → Type 0
+IsWithin stage.Before = ⊥
+IsWithin s = Unit {0}
+
+-- a thread that is led to a stage within an instruction stands where it stood
+abbrev pub StandsWithin : Type 0
+StandsWithin =
+    (code : PlainCode) (places : ℕ → ℕ) (thread : Thread) (answer : Answer) →
+    (IsWithin (thread_after_answer code thread answer).stage → (thread_after_answer code thread answer).at ≡ thread.at)
+    × (IsWithin (thread_after_step code places thread).stage → (thread_after_step code places thread).at ≡ thread.at)
+
 -- ---- rounds
 
 -- a lock, and a compare and exchange of a pointer, are made in rounds

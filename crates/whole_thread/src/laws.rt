@@ -24,7 +24,7 @@ ghost use Rattle.whole_thread.specs.Worked.Walks.{StaticWalks};
 ghost use Rattle.whole_thread.specs.Worked.Walks.{LibraryRefusalWalks, LibraryStepWalks};
 ghost use Rattle.whole_thread.specs.PlaysOn.{ThreadsFollow, StopsOutside, BeginFollows, ThreadsStay};
 ghost use Rattle.whole_thread.specs.PlaysOn.{LockRoundFollows, ExchangeRoundFollows};
-ghost use Rattle.whole_thread.specs.PlaysOn.{CodeGoesOnHere, RoundsStay};
+ghost use Rattle.whole_thread.specs.PlaysOn.{CodeGoesOnHere, RoundsStay, StandsWithin};
 
 /// Registers are set without an event, and a poll makes none.
 pub fn registers_are_set()
@@ -130,6 +130,7 @@ pub fn threads_walk_from_event_to_event()
 pub fn threads_follow_their_play()
     ensures follow { ThreadsFollow }
     ensures outside { StopsOutside }
+    ensures within { StandsWithin }
 {}
 
 /// A further round of a lock, or of an exchange of a pointer, goes on as behind its check.
