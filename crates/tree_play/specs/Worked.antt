@@ -6,6 +6,7 @@ pub mod PairExchanges
 pub mod Addresses
 pub mod Intrinsics
 pub mod Order
+pub mod Changes
 pub mod Statements
 pub mod Copies
 pub mod Printing

@@ -9,16 +9,21 @@ ghost use Rattle.tree_play.specs.Worked.Integers.{IntRead, IntStore, RefusedRead
 ghost use Rattle.tree_play.specs.Worked.Integers.{NoCellIsNoReason, IntSwap, IntFetch, IntCombine};
 ghost use Rattle.tree_play.specs.Worked.Integers.{AtomicDivision, IntExchange, IntExchangeFails};
 ghost use Rattle.tree_play.specs.Worked.Integers.{BoolExchangeFails, OperatorsCompute};
-ghost use Rattle.tree_play.specs.Worked.Integers.{OperatorsTrap};
+ghost use Rattle.tree_play.specs.Worked.Integers.{OperatorsWrap, OperatorsTrap};
+ghost use Rattle.tree_play.specs.Worked.Integers.{NegativeIsExchanged, NegativeIsFound};
+ghost use Rattle.tree_play.specs.Worked.Changes.{ResultIsConverted, TypeIsTheOperators};
+ghost use Rattle.tree_play.specs.Worked.Changes.{AtomicResultIsConverted, NothingIsStored};
+ghost use Rattle.tree_play.specs.Worked.Changes.{PointersAreChanged, LocalPointersAreChanged};
 ghost use Rattle.tree_play.specs.Worked.Pointers.{PointerRead, PairRead, PointerStore, PairStore};
 ghost use Rattle.tree_play.specs.Worked.Pointers.{PairSwap, PlainSwap, NoCellTraps, TornRead};
 ghost use Rattle.tree_play.specs.Worked.PairExchanges.{ExchangeIsMade, ExchangeIsTriedAgain};
 ghost use Rattle.tree_play.specs.Worked.PairExchanges.{ExchangeFails, ExchangeWantsACell};
+ghost use Rattle.tree_play.specs.Worked.PairExchanges.{ExchangeTellsHalvesApart};
 ghost use Rattle.tree_play.specs.Worked.Addresses.{PointersMove, AddressesComeRound};
 ghost use Rattle.tree_play.specs.Worked.Addresses.{FunctionsHaveAddresses, IntegersNameNothing};
 ghost use Rattle.tree_play.specs.Worked.Addresses.{PointersHaveDistances, PointersAreCompared};
 ghost use Rattle.tree_play.specs.Worked.Addresses.{PointersBecomeIntegers};
-ghost use Rattle.tree_play.specs.Worked.Intrinsics.{LockIsTaken, LockIsCheckedAgain};
+ghost use Rattle.tree_play.specs.Worked.Intrinsics.{LockIsTaken, LockIsCheckedAgain, LockIsCut};
 ghost use Rattle.tree_play.specs.Worked.Intrinsics.{LockIsRefused, ObjectIsMade, ObjectIsFreed};
 ghost use Rattle.tree_play.specs.Worked.Intrinsics.{SizeIsTold, ByteIsPutOut, ByteIsTakenIn};
 ghost use Rattle.tree_play.specs.Worked.Intrinsics.{ThreadIsStarted, ThreadIsJoined};
@@ -26,12 +31,13 @@ ghost use Rattle.tree_play.specs.Worked.Intrinsics.{ThreadHasAnId, ProgramEnds};
 ghost use Rattle.tree_play.specs.Worked.Order.{LvalueComesFirst, OldValueIsReadLate};
 ghost use Rattle.tree_play.specs.Worked.Order.{LocalIsReadLate, StepGivesTheOldValue};
 ghost use Rattle.tree_play.specs.Worked.Order.{LeftComesFirst, PointerIsLookedAtLast, LogicStops};
+ghost use Rattle.tree_play.specs.Worked.Order.{OrderIsEvaluatedFirst};
 ghost use Rattle.tree_play.specs.Worked.Order.{OneIsChosen, CommaGivesTheRight};
 ghost use Rattle.tree_play.specs.Worked.Statements.{HomeIsMade, ParameterIsMoved};
 ghost use Rattle.tree_play.specs.Worked.Statements.{LocalsAreZeroAgain, HomesStay, LoopGoesRound};
 ghost use Rattle.tree_play.specs.Worked.Statements.{ContinueMakesTheStep, ReturnLeavesTheLoop};
 ghost use Rattle.tree_play.specs.Worked.Statements.{LoopIsCut, SwitchPassesOver, SwitchContinues};
-ghost use Rattle.tree_play.specs.Worked.Copies.{WordsAreCopied, BytesAreCopied};
+ghost use Rattle.tree_play.specs.Worked.Copies.{WordsAreCopied, BytesAreCopied, NumbersAreCopied};
 ghost use Rattle.tree_play.specs.Worked.Printing.{PrintIsLocked, PrintIsRefused};
 ghost use Rattle.tree_play.specs.Worked.Programs.{MainExits, ThreadEnds, ArgumentsArePassed};
 ghost use Rattle.tree_play.specs.Worked.Programs.{PointersAreCalled, HomeOutlivesItsCall};
@@ -74,6 +80,7 @@ pub fn programs_are_gapless()
 /// Operators on integers make no event, and trap where they have no result.
 pub fn operators_make_no_event()
     ensures compute { OperatorsCompute }
+    ensures wrap { OperatorsWrap }
     ensures trap { OperatorsTrap }
 {}
 
@@ -93,7 +100,20 @@ pub fn atomic_integers_make_one_event()
     ensures division { AtomicDivision }
     ensures exchange { IntExchange }
     ensures fails { IntExchangeFails }
+    ensures negative { NegativeIsExchanged }
+    ensures negative_found { NegativeIsFound }
     ensures bytes { BoolExchangeFails }
+{}
+
+/// What is there is read, changed in the operator's type, converted and stored; a pointer keeps its
+/// capability.
+pub fn assignments_change_what_is_there()
+    ensures convert { ResultIsConverted }
+    ensures operator { TypeIsTheOperators }
+    ensures atomic { AtomicResultIsConverted }
+    ensures trap { NothingIsStored }
+    ensures pointers { PointersAreChanged }
+    ensures locals { LocalPointersAreChanged }
 {}
 
 /// Pointers are read and stored by their two halves, or as a pair.
@@ -113,6 +133,7 @@ pub fn pointers_have_two_halves()
 pub fn pointers_are_exchanged_by_address()
     ensures made { ExchangeIsMade }
     ensures again { ExchangeIsTriedAgain }
+    ensures halves { ExchangeTellsHalvesApart }
     ensures fails { ExchangeFails }
     ensures no_cell { ExchangeWantsACell }
 {}
@@ -132,6 +153,7 @@ pub fn addresses_move_and_are_looked_at()
 pub fn intrinsics_make_their_events()
     ensures lock { LockIsTaken }
     ensures lock_again { LockIsCheckedAgain }
+    ensures lock_cut { LockIsCut }
     ensures lock_refused { LockIsRefused }
     ensures new { ObjectIsMade }
     ensures free { ObjectIsFreed }
@@ -152,6 +174,7 @@ pub fn evaluation_has_an_order()
     ensures step { StepGivesTheOldValue }
     ensures left { LeftComesFirst }
     ensures pointer { PointerIsLookedAtLast }
+    ensures order { OrderIsEvaluatedFirst }
     ensures logic { LogicStops }
     ensures choice { OneIsChosen }
     ensures comma { CommaGivesTheRight }
@@ -175,6 +198,7 @@ pub fn statements_have_flows()
 pub fn structures_are_copied()
     ensures words { WordsAreCopied }
     ensures bytes { BytesAreCopied }
+    ensures numbers { NumbersAreCopied }
 {}
 
 /// `printf` holds the lock of the output while it puts out its pieces.

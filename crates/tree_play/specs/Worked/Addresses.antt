@@ -1,6 +1,6 @@
 -- Worked plays of pointers that move, and of those that are looked at.
 use Rattle.std.specs.Prelude.{ℕ, [], ◌∷◌}
-use Rattle.filc_num.specs.declared.integer.IntType.TheVariants.{Bool as BoolType, I64}
+use Rattle.filc_num.specs.declared.integer.IntType.TheVariants.{Bool as BoolType, I8, I64}
 use Rattle.filc_num.specs.declared.integer.BinOp.TheVariants.{Lt, Eq}
 use Rattle.c_tree.specs.declared.operation.Operation.TheVariants as op
 use Rattle.ideal_machine.specs.declared.value.Half.TheVariants.{Nothing, Object as ObjectHalf, Function as FunctionHalf}
@@ -54,9 +54,11 @@ PointersAreCompared =
     × Yields (expr_play (two (op.Compare Eq) (static 0) (number 65536)) []) (Done ∷ Done ∷ [])
     (Name (ObjectHalf 0) 65536 ∷ Name Nothing 65536 ∷ []) [] (integer 1)
 
--- a pointer as an integer, and as a condition
+-- a pointer as an integer, which may be a narrow one, and as a condition
 abbrev pub PointersBecomeIntegers : Type 0
 PointersBecomeIntegers =
     Yields (expr_play (one (op.ToInteger I64) (static 0)) []) (Done ∷ []) (Name (ObjectHalf 0) 65536 ∷ []) [] (integer 65536)
     × Yields (expr_play (one (op.ToInteger BoolType) (static 0)) []) (Done ∷ []) (Name (ObjectHalf 0) 65536 ∷ []) [] (integer 1)
     × Yields (expr_play (one (op.ToInteger BoolType) (number 0)) []) (Done ∷ []) (Name Nothing 0 ∷ []) [] (integer 0)
+    × Yields (expr_play (one (op.ToInteger I8) (one (op.Offset 200) (static 0))) []) (Done ∷ []) (Name (ObjectHalf 0) 65736 ∷ []) []
+    (integer 18446744073709551560)

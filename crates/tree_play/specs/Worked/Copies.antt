@@ -1,7 +1,7 @@
 -- Worked plays of structures that are copied, from object 1 to object 0.
 use Rattle.std.specs.Prelude.{ℕ, [], ◌∷◌, true, false}
 use Rattle.c_tree.specs.declared.operation.Operation.TheVariants as op
-use Rattle.c_tree.specs.declared.operation.Unit.TheVariants.{Byte, Pointer}
+use Rattle.c_tree.specs.declared.operation.Unit.TheVariants.{Byte, TwoBytes, FourBytes, Pointer}
 use Rattle.ideal_machine.specs.declared.value.Half.{Half}
 use Rattle.ideal_machine.specs.declared.value.Half.TheVariants.{Object as ObjectHalf}
 use Rattle.ideal_machine.specs.declared.value.Kept.TheVariants.{Plain as KeptPlain}
@@ -29,4 +29,18 @@ BytesAreCopied =
     (Granted ∷ Number 200 ∷ Granted ∷ Done ∷ Granted ∷ Number 3 ∷ Granted ∷ Done ∷ [])
     (Check (ObjectHalf 1) 66560 1 false ∷ GetInt (bytes_at 1 0 1) ∷ Check (ObjectHalf 0) 65536 1 true ∷ SetInt (bytes_at 0 0 1) 200
     ∷ Check (ObjectHalf 1) 66561 1 false ∷ GetInt (bytes_at 1 1 1) ∷ Check (ObjectHalf 0) 65537 1 true ∷ SetInt (bytes_at 0 1 1) 3 ∷ [])
+    [] (into 0 0)
+
+-- of two numbers of two bytes, and of four
+abbrev pub NumbersAreCopied : Type 0
+NumbersAreCopied =
+    YieldsWith 2 0 (expr_play (two (op.Copy TwoBytes 2) (static 0) (static 1)) [])
+    (Granted ∷ Number 65535 ∷ Granted ∷ Done ∷ Granted ∷ Number 3 ∷ Granted ∷ Done ∷ [])
+    (Check (ObjectHalf 1) 66560 2 false ∷ GetInt (bytes_at 1 0 2) ∷ Check (ObjectHalf 0) 65536 2 true ∷ SetInt (bytes_at 0 0 2) 65535
+    ∷ Check (ObjectHalf 1) 66562 2 false ∷ GetInt (bytes_at 1 2 2) ∷ Check (ObjectHalf 0) 65538 2 true ∷ SetInt (bytes_at 0 2 2) 3 ∷ [])
+    [] (into 0 0)
+    × YieldsWith 2 0 (expr_play (two (op.Copy FourBytes 2) (static 0) (static 1)) [])
+    (Granted ∷ Number 4294967295 ∷ Granted ∷ Done ∷ Granted ∷ Number 3 ∷ Granted ∷ Done ∷ [])
+    (Check (ObjectHalf 1) 66560 4 false ∷ GetInt (bytes_at 1 0 4) ∷ Check (ObjectHalf 0) 65536 4 true ∷ SetInt (bytes_at 0 0 4) 4294967295
+    ∷ Check (ObjectHalf 1) 66564 4 false ∷ GetInt (bytes_at 1 4 4) ∷ Check (ObjectHalf 0) 65540 4 true ∷ SetInt (bytes_at 0 4 4) 3 ∷ [])
     [] (into 0 0)

@@ -25,12 +25,24 @@ OperatorsCompute =
     × Yields (expr_play (one (op.Convert I8) (number 300)) []) [] [] [] (integer 44)
     × Yields (expr_play (two (op.Binary Lt U32) (number 18446744073709551615) (number 1)) []) [] [] [] (integer 0)
 
--- the least int by -1, `1 << 32` and `1 % 0` have no result
+-- a result is a value of its type: 200 as an int8_t is -56, the least int has no other negative, in unsigned int `-1u` and
+-- `~0u` are the greatest, and `!5` is 0
+abbrev pub OperatorsWrap : Type 0
+OperatorsWrap =
+    Yields (expr_play (one (op.Convert I8) (number 200)) []) [] [] [] (integer 18446744073709551560)
+    × Yields (expr_play (one (op.Negate I32) (number 18446744071562067968)) []) [] [] [] (integer 18446744071562067968)
+    × Yields (expr_play (one (op.Negate U32) (number 1)) []) [] [] [] (integer 4294967295)
+    × Yields (expr_play (one (op.Complement U32) (number 0)) []) [] [] [] (integer 4294967295)
+    × Yields (expr_play (one (op.Not I32) (number 5)) []) [] [] [] (integer 0)
+
+-- the least int by -1, `1 << 32` and `1 % 0` have no result; the count of a shift isn't converted, so `1 << 4294967297`
+-- has none
 abbrev pub OperatorsTrap : Type 0
 OperatorsTrap =
     Traps (expr_play (two (op.Binary Div I32) (number 18446744071562067968) (number 18446744073709551615)) []) [] [] Divide
     × Traps (expr_play (two (op.Binary Shl I32) (number 1) (number 32)) []) [] [] Shift
     × Traps (expr_play (two (op.Binary Rem I32) (number 1) (number 0)) []) [] [] Divide
+    × Traps (expr_play (two (op.Binary Shl I32) (number 1) (number 4294967297)) []) [] [] Shift
 
 -- ---- memory
 
@@ -95,6 +107,22 @@ IntExchangeFails =
     (Granted ∷ Number 7 ∷ Granted ∷ Number 8 ∷ Granted ∷ Done ∷ [])
     (Check (ObjectHalf 1) 66560 4 false ∷ GetInt (bytes_at 1 0 4) ∷ Check (ObjectHalf 0) 65536 4 true ∷ CasInt (bytes_at 0 0 4) 7 9
     ∷ Check (ObjectHalf 1) 66560 4 true ∷ SetInt (bytes_at 1 0 4) 8 ∷ []) [] (integer 0)
+
+-- -1 is expected: its four bytes are found, and it is made
+abbrev pub NegativeIsExchanged : Type 0
+NegativeIsExchanged =
+    Yields (expr_play (three (op.Cas (Integer I32)) (static 0) (static 1) (number 9)) [])
+    (Granted ∷ Number 4294967295 ∷ Granted ∷ Number 4294967295 ∷ [])
+    (Check (ObjectHalf 1) 66560 4 false ∷ GetInt (bytes_at 1 0 4)
+    ∷ Check (ObjectHalf 0) 65536 4 true ∷ CasInt (bytes_at 0 0 4) 18446744073709551615 9 ∷ []) [] (integer 1)
+
+-- -1 is found where 7 is expected: it is stored as a value of its type
+abbrev pub NegativeIsFound : Type 0
+NegativeIsFound =
+    Yields (expr_play (three (op.Cas (Integer I32)) (static 0) (static 1) (number 9)) [])
+    (Granted ∷ Number 7 ∷ Granted ∷ Number 4294967295 ∷ Granted ∷ Done ∷ [])
+    (Check (ObjectHalf 1) 66560 4 false ∷ GetInt (bytes_at 1 0 4) ∷ Check (ObjectHalf 0) 65536 4 true ∷ CasInt (bytes_at 0 0 4) 7 9
+    ∷ Check (ObjectHalf 1) 66560 4 true ∷ SetInt (bytes_at 1 0 4) 18446744073709551615 ∷ []) [] (integer 0)
 
 -- the bytes decide, and not the values: a `_Bool` whose byte is 5 isn't exchanged where 1 is expected, though it is 1
 abbrev pub BoolExchangeFails : Type 0

@@ -7,8 +7,8 @@ use Rattle.ideal_machine.specs.declared.finish.Finish.TheVariants.{Exited}
 use Rattle.ideal_machine.specs.declared.event.Event.TheVariants.{Check, New, Void, Size, Lock, Out, Input, Spawn, Join, Exit}
 use Rattle.ideal_machine.specs.declared.event.Answer.TheVariants.{Granted, Refused, Done, Number, Made, Absent, End as InputEnd}
 use Rattle.ideal_machine.specs.Values.{integer}
-use Rattle.ideal_machine.specs.Play.{Finished, Ends, fresh_log, run}
-use Rattle.tree_play.specs.Worked.Setting.{leaf, one, two, number, static, into, Yields, YieldsWith, Traps, WaitsAt, expr_play}
+use Rattle.ideal_machine.specs.Play.{Cut, Finished, Ends, fresh_log, run}
+use Rattle.tree_play.specs.Worked.Setting.{leaf, one, two, number, local, static, into, Yields, YieldsWith, Traps, WaitsAt, expr_play}
 
 -- a lock: Check, and Lock
 abbrev pub LockIsTaken : Type 0
@@ -30,6 +30,19 @@ LockIsRefused =
     (Check (ObjectHalf 0) 65536 4 true ∷ Check (ObjectHalf 0) 65536 4 true ∷ []) FreedReason
     × WaitsAt (expr_play (one op.Lock (static 0)) []) [] [] Done
 
+-- after its first check it is tried three times here, as a loop makes three rounds, and is cut then
+abbrev pub LockIsCut : Type 0
+LockIsCut =
+    run (expr_play (one op.Lock (static 0)) []) (fresh_log (Granted ∷ Granted ∷ Granted ∷ Granted ∷ []))
+    ≡ Ends Cut
+    (record {
+      answers = [];
+      events = Check (ObjectHalf 0) 65536 4 true ∷ Check (ObjectHalf 0) 65536 4 true ∷ Check (ObjectHalf 0) 65536 4 true
+          ∷ Check (ObjectHalf 0) 65536 4 true ∷ [];
+      jumps = 3;
+      calls = 0;
+    })
+
 -- a new object, or a null pointer
 abbrev pub ObjectIsMade : Type 0
 ObjectIsMade =
@@ -42,6 +55,8 @@ ObjectIsFreed =
     Yields (expr_play (one op.Free (static 0)) []) (Granted ∷ []) (Void (ObjectHalf 0) 65536 ∷ []) [] (into 0 0)
     × Traps (expr_play (one op.Free (static 0)) []) (Refused BadFree ∷ []) (Void (ObjectHalf 0) 65536 ∷ []) BadFree
     × Yields (expr_play (one op.Free (number 0)) []) [] [] [] (integer 0)
+    × Yields (expr_play (one op.Free (local 0)) (record { number = 0; half = ObjectHalf 0 } ∷ [])) [] []
+    (record { number = 0; half = ObjectHalf 0 } ∷ []) (record { number = 0; half = ObjectHalf 0 })
 
 abbrev pub SizeIsTold : Type 0
 SizeIsTold =

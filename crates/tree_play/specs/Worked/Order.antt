@@ -4,14 +4,16 @@ use Rattle.filc_num.specs.declared.integer.IntType.TheVariants.{I32}
 use Rattle.filc_num.specs.declared.integer.BinOp.TheVariants.{Add, Sub}
 use Rattle.filc_num.specs.declared.reason.Reason.TheVariants.{NotFunction}
 use Rattle.c_tree.specs.declared.operation.Operation.TheVariants as op
-use Rattle.c_tree.specs.declared.operation.Access.TheVariants.{Integer}
+use Rattle.c_tree.specs.declared.operation.Access.TheVariants.{Integer, Box}
 use Rattle.c_tree.specs.declared.operation.Change.TheVariants.{Integer as IntChange}
 use Rattle.c_tree.specs.declared.expr.Expr.{Expr, Chain', Logic', Choose', end_of-Expr, more_of-Expr, end_of-Link, more_of-Link}
 use Rattle.ideal_machine.specs.declared.value.Half.TheVariants.{Object as ObjectHalf}
-use Rattle.ideal_machine.specs.declared.event.Event.TheVariants.{Check, GetInt, SetInt, Input}
+use Rattle.ideal_machine.specs.declared.value.Kept.TheVariants.{Pair as KeptPair}
+use Rattle.ideal_machine.specs.declared.event.Operation.TheVariants.{Compute}
+use Rattle.ideal_machine.specs.declared.event.Event.TheVariants.{Check, GetInt, SetInt, RmwInt, SetHalf, Input}
 use Rattle.ideal_machine.specs.declared.event.Answer.TheVariants.{Granted, Done, Number}
 use Rattle.ideal_machine.specs.Values.{integer}
-use Rattle.tree_play.specs.Worked.Setting.{leaf, one, two, number, local, static, bytes_at, Yields, Traps, expr_play}
+use Rattle.tree_play.specs.Worked.Setting.{leaf, one, two, number, local, static, bytes_at, into, Yields, Traps, expr_play}
 
 abbrev pub input : Expr
 input = leaf op.Input
@@ -62,6 +64,19 @@ LeftComesFirst =
 abbrev pub PointerIsLookedAtLast : Type 0
 PointerIsLookedAtLast =
     Traps (expr_play (two (op.CallPointer 1) input input) []) (Number 66 ∷ Number 65 ∷ []) (Input ∷ Input ∷ []) NotFunction
+
+-- the last argument of an atomic call, its order, is evaluated before the event; the operand that waits for it stays as it is, with its
+-- capability
+abbrev pub before_order : Expr → Expr
+before_order e =
+    Chain' 1 _ (more_of-Expr e end_of-Expr) (tt ∷ []) (more_of-Link (op.Advance 0) (tt ∷ []) (more_of-Expr input end_of-Expr) end_of-Link)
+
+abbrev pub OrderIsEvaluatedFirst : Type 0
+OrderIsEvaluatedFirst =
+    Yields (expr_play (two (op.Fetch I32 Add I32) (static 0) (before_order (number 2))) []) (Number 9 ∷ Granted ∷ Number 5 ∷ [])
+    (Input ∷ Check (ObjectHalf 0) 65536 4 true ∷ RmwInt (bytes_at 0 0 4) (Compute Add I32 I32) 2 ∷ []) [] (integer 5)
+    × Yields (expr_play (two (op.Store Box) (static 0) (before_order (static 1))) []) (Number 9 ∷ Granted ∷ Done ∷ [])
+    (Input ∷ Check (ObjectHalf 0) 65536 8 true ∷ SetHalf 0 0 (KeptPair 66560 (ObjectHalf 1)) ∷ []) [] (into 1 0)
 
 -- `&&` and `||` stop at the operand that decides, and give 1 or 0
 abbrev pub both : Expr → Expr → Expr

@@ -53,6 +53,22 @@ ExchangeIsTriedAgain =
     ∷ GetHalf 0 0 ∷ GetInt (bytes_at 0 0 8) ∷ name_of_expected
     ∷ CasHalf 0 0 (SeenFound (FoundPlain Nothing)) (KeptPair 67584 (ObjectHalf 2)) ∷ []) locals (integer 1)
 
+-- a pointer to object 3 was seen, and one to object 4 or a freed one was there by then, at the same address: each time once more
+abbrev pub seen_answers : List Answer
+seen_answers = Found (FoundPlain (ObjectHalf 3)) ∷ Number 66560 ∷ Done ∷ []
+
+abbrev pub seen_events : List Event
+seen_events =
+    GetHalf 0 0 ∷ GetInt (bytes_at 0 0 8) ∷ name_of_expected
+    ∷ CasHalf 0 0 (SeenFound (FoundPlain (ObjectHalf 3))) (KeptPair 67584 (ObjectHalf 2)) ∷ []
+
+abbrev pub ExchangeTellsHalvesApart : Type 0
+ExchangeTellsHalvesApart =
+    YieldsWith 2 0 exchange
+    (expected_answers ++ Granted ∷ seen_answers ++ Found (FoundPlain (ObjectHalf 4)) ∷ seen_answers ++ Found (FoundPlain Freed)
+    ∷ seen_answers ++ Found (FoundPlain (ObjectHalf 3)) ∷ [])
+    (expected_events ++ Check (ObjectHalf 0) 65536 8 true ∷ seen_events ++ seen_events ++ seen_events) locals (integer 1)
+
 -- another address is found: it is stored over the expected pointer by a plain store, and the exchange gives 0
 abbrev pub ExchangeFails : Type 0
 ExchangeFails =

@@ -49,7 +49,7 @@ static n = leaf (op.Static n)
 abbrev pub base : ℕ → ℕ
 base n = 65536 + 1024 * n
 
--- nothing is called where single expressions are expr_play
+-- nothing is called where single expressions are played
 abbrev pub around : Around
 around = record {
   rounds = 3;
@@ -68,7 +68,7 @@ bytes_at object offset width = record { object = object; offset = offset; width 
 abbrev pub into : (object offset : ℕ) → Value
 into object offset = record { number = base object + offset; half = ObjectHalf object }
 
--- ---- what is expr_play
+-- ---- what is played
 
 -- a play that gives a value in a state, when these answers are taken, these events made, and so many backward jumps and calls
 abbrev pub YieldsWith : {A : Type 0} → (jumps calls : ℕ) → TextPlay A → List Answer → List Event → State → A → Type 0

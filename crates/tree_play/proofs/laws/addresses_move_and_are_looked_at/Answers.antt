@@ -13,4 +13,4 @@ returns-clause-comparisons c = (refl, refl)
 
 pub returns-clause-conversions : goal.returns-clause-conversions
 unfolding convert_of binary_of
-returns-clause-conversions c = (refl, refl, refl)
+returns-clause-conversions c = (refl, refl, refl, refl)

@@ -26,3 +26,11 @@ returns-clause-fails c = refl
 pub returns-clause-bytes : goal.returns-clause-bytes
 unfolding convert_of binary_of
 returns-clause-bytes c = refl
+
+pub returns-clause-negative : goal.returns-clause-negative
+unfolding convert_of binary_of
+returns-clause-negative c = refl
+
+pub returns-clause-negative_found : goal.returns-clause-negative_found
+unfolding convert_of binary_of
+returns-clause-negative_found c = refl

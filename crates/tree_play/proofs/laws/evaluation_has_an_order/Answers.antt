@@ -22,3 +22,7 @@ returns-clause-step c = refl
 pub returns-clause-left : goal.returns-clause-left
 unfolding convert_of binary_of
 returns-clause-left c = refl
+
+pub returns-clause-order : goal.returns-clause-order
+unfolding convert_of binary_of
+returns-clause-order c = (refl, refl)

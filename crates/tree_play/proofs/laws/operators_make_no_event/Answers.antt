@@ -9,4 +9,8 @@ returns-clause-compute c = (refl, refl, refl, refl, refl)
 
 pub returns-clause-trap : goal.returns-clause-trap
 unfolding convert_of binary_of
-returns-clause-trap c = (refl, refl, refl)
+returns-clause-trap c = (refl, refl, refl, refl)
+
+pub returns-clause-wrap : goal.returns-clause-wrap
+unfolding convert_of binary_of
+returns-clause-wrap c = (refl, refl, refl, refl, refl)
