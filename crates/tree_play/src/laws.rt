@@ -37,13 +37,20 @@ ghost use Rattle.tree_play.specs.Worked.Statements.{HomeIsMade, ParameterIsMoved
 ghost use Rattle.tree_play.specs.Worked.Statements.{LocalsAreZeroAgain, HomesStay, LoopGoesRound};
 ghost use Rattle.tree_play.specs.Worked.Statements.{ContinueMakesTheStep, ReturnLeavesTheLoop};
 ghost use Rattle.tree_play.specs.Worked.Statements.{LoopIsCut, SwitchPassesOver, SwitchContinues};
+ghost use Rattle.tree_play.specs.Worked.Statements.{PointerIsMoved, HomesHaveAnOrder};
+ghost use Rattle.tree_play.specs.Worked.Statements.{NextLeavesTheLoop, BreakStaysInTheLoop};
+ghost use Rattle.tree_play.specs.Worked.Statements.{ReturnLeavesTheSwitch};
 ghost use Rattle.tree_play.specs.Worked.Copies.{WordsAreCopied, BytesAreCopied, NumbersAreCopied};
 ghost use Rattle.tree_play.specs.Worked.Printing.{PrintIsLocked, PrintIsRefused};
 ghost use Rattle.tree_play.specs.Worked.Programs.{MainExits, ThreadEnds, ArgumentsArePassed};
 ghost use Rattle.tree_play.specs.Worked.Programs.{PointersAreCalled, HomeOutlivesItsCall};
+ghost use Rattle.tree_play.specs.Worked.Programs.{PointersTakeArguments, MovedPointerCalls};
+ghost use Rattle.tree_play.specs.Worked.Programs.{CalledMainReturns};
 ghost use Rattle.tree_play.specs.Worked.Lines.{DivisionHasItsLine, LibraryHasTheUsersLine};
 ghost use Rattle.tree_play.specs.Worked.Lines.{LibraryCallsFurther, FirstFunctionHasItsLine};
-ghost use Rattle.tree_play.specs.Worked.Lines.{DepthHasTheUsersLine};
+ghost use Rattle.tree_play.specs.Worked.Lines.{DepthHasTheUsersLine, LinkHasTheChainsLine};
+ghost use Rattle.tree_play.specs.Worked.Lines.{HeaderHasTheUsersLine, HeaderCallsTheUser};
+ghost use Rattle.tree_play.specs.Worked.Lines.{PrintingCallHasTheUsersLine};
 ghost use Rattle.tree_play.specs.Worked.Depth.{DepthIsReached, DepthIsPassed};
 ghost use Rattle.tree_play.specs.Worked.Histories.{TornPairIsLegal};
 
@@ -184,14 +191,19 @@ pub fn evaluation_has_an_order()
 pub fn statements_have_flows()
     ensures home { HomeIsMade }
     ensures parameter { ParameterIsMoved }
+    ensures pointer { PointerIsMoved }
+    ensures homes { HomesHaveAnOrder }
     ensures zero { LocalsAreZeroAgain }
     ensures homes_stay { HomesStay }
     ensures round { LoopGoesRound }
     ensures step { ContinueMakesTheStep }
+    ensures next { NextLeavesTheLoop }
     ensures leaves { ReturnLeavesTheLoop }
     ensures cut { LoopIsCut }
     ensures passes { SwitchPassesOver }
     ensures continues { SwitchContinues }
+    ensures breaks { BreakStaysInTheLoop }
+    ensures switch { ReturnLeavesTheSwitch }
 {}
 
 /// Structures are copied unit by unit.
@@ -211,20 +223,27 @@ pub fn printf_locks_the_output()
 pub fn threads_end_by_their_return()
     ensures main { MainExits }
     ensures thread { ThreadEnds }
+    ensures call { CalledMainReturns }
 {}
 
 /// Functions are called by number and through pointers, and homes outlive their calls.
 pub fn functions_are_called()
     ensures arguments { ArgumentsArePassed }
     ensures pointers { PointersAreCalled }
+    ensures pointer_arguments { PointersTakeArguments }
+    ensures moved { MovedPointerCalls }
     ensures home { HomeOutlivesItsCall }
 {}
 
 /// A trap has the line of the innermost text of the user's.
 pub fn traps_have_lines()
     ensures division { DivisionHasItsLine }
+    ensures link { LinkHasTheChainsLine }
+    ensures header { HeaderHasTheUsersLine }
+    ensures printing { PrintingCallHasTheUsersLine }
     ensures library { LibraryHasTheUsersLine }
     ensures further { LibraryCallsFurther }
+    ensures user { HeaderCallsTheUser }
     ensures first { FirstFunctionHasItsLine }
     ensures depth { DepthHasTheUsersLine }
 {}

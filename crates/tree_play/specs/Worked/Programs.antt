@@ -1,6 +1,7 @@
 -- Worked plays of programs: how threads end, how functions are called, and at which line they trap.
 use Rattle.std.specs.Prelude.{◌≡◌, ℕ, List, [], ◌∷◌, Bool, true, false, Some}
 use Rattle.filc_num.specs.declared.integer.IntType.TheVariants.{I32}
+use Rattle.filc_num.specs.declared.integer.BinOp.TheVariants.{Add}
 use Rattle.filc_num.specs.declared.reason.Reason.TheVariants.{NotFunction, FunctionType}
 use Rattle.c_tree.specs.declared.operation.Operation.TheVariants as op
 use Rattle.c_tree.specs.declared.operation.Access.TheVariants.{Integer}
@@ -14,13 +15,13 @@ use Rattle.ideal_machine.specs.declared.value.Half.TheVariants.{Object as Object
 use Rattle.ideal_machine.specs.declared.finish.Finish.{Finish}
 use Rattle.ideal_machine.specs.declared.finish.Finish.TheVariants.{Exited, Trapped}
 use Rattle.ideal_machine.specs.declared.event.Event.{Event}
-use Rattle.ideal_machine.specs.declared.event.Event.TheVariants.{Check, GetInt, SetInt, New, Out, End, Exit, Trap}
+use Rattle.ideal_machine.specs.declared.event.Event.TheVariants.{Check, GetInt, SetInt, New, Out, Input, End, Exit, Trap}
 use Rattle.ideal_machine.specs.declared.event.Answer.{Answer}
 use Rattle.ideal_machine.specs.declared.event.Answer.TheVariants.{Granted, Done, Number, Made}
 use Rattle.ideal_machine.specs.Values.{integer}
 use Rattle.ideal_machine.specs.Play.{Behaviour, Finished, Goes, Ends}
 use Rattle.tree_play.specs.TreePlay.{play}
-use Rattle.tree_play.specs.Worked.Setting.{leaf, one, two, number, local, static, base, bytes_at, empty, block_of_two, local_of, put}
+use Rattle.tree_play.specs.Worked.Setting.{leaf, one, two, three, number, local, static, base, bytes_at, empty, block_of_two, if_of, local_of, put}
 
 -- ---- programs
 
@@ -65,6 +66,21 @@ ThreadEnds =
     thread_of (main_of empty ∷ function_of false 0 1 (returns (local 0)) ∷ []) 1 (integer n) (Done ∷ [])
     ≡ Goes tt n (record { answers = []; events = End n ∷ []; jumps = 0; calls = 0 })
 
+-- a call of `main` returns as any other does, in the program's first thread and in another: only a first function ends something
+abbrev pub one_more : Expr → Expr
+one_more e = two (op.Binary Add I32) e (number 1)
+
+abbrev pub calls_main_once : Stmt
+calls_main_once = block_of_two [] (if_of (leaf op.Input) (returns (one_more (leaf (op.Call 0)))) empty) (returns (number 3))
+
+abbrev pub CalledMainReturns : Type 0
+CalledMainReturns =
+    EndsWith (thread_of (main_of calls_main_once ∷ []) 0 (integer 0) (Number 1 ∷ Number 0 ∷ Done ∷ []))
+    (Input ∷ Input ∷ Exit 4 ∷ []) 1 (Exited 4)
+    × (thread_of (main_of (returns (number 3)) ∷ function_of false 0 1 (returns (one_more (leaf (op.Call 0)))) ∷ []) 1 (integer 0)
+    (Done ∷ [])
+    ≡ Goes tt 4 (record { answers = []; events = End 4 ∷ []; jumps = 0; calls = 1 }))
+
 -- ---- calls
 
 -- arguments are the callee's first locals, and its others are 0; the caller's locals stay
@@ -89,6 +105,21 @@ PointersAreCalled =
     × EndsWith (thread_of (call_through (leaf (op.Function 1))) 0 (integer 0) (Done ∷ [])) (Trap FunctionType 1 ∷ []) 0 (Trapped FunctionType 1)
     × EndsWith (thread_of (call_through (static 0)) 0 (integer 0) (Done ∷ [])) (Trap NotFunction 1 ∷ []) 0 (Trapped NotFunction 1)
     × EndsWith (thread_of (call_through (number 0)) 0 (integer 0) (Done ∷ [])) (Trap NotFunction 1 ∷ []) 0 (Trapped NotFunction 1)
+
+-- the operands behind the pointer are the arguments
+abbrev pub PointersTakeArguments : Type 0
+PointersTakeArguments =
+    EndsWith
+    (thread_of
+    (main_of (returns (three (op.CallPointer 2) (leaf (op.Function 1)) (number 7) (number 8))) ∷ function_of false 2 2 shows_locals ∷ []) 0
+    (integer 0) (Done ∷ Done ∷ Done ∷ []))
+    (Out 8 ∷ Out 0 ∷ Exit 7 ∷ []) 1 (Exited 7)
+
+-- the capability names the function, and not the address: a pointer that moved calls the same one
+abbrev pub MovedPointerCalls : Type 0
+MovedPointerCalls =
+    EndsWith (thread_of (call_through (two (op.Advance 1) (leaf (op.Function 2)) (number 4))) 0 (integer 0) (Done ∷ []))
+    (Exit 5 ∷ []) 1 (Exited 5)
 
 -- `int*f(void){int x=7;return &x;}`: a home is not voided, so `*f()` is 7
 abbrev pub returns_its_home : Stmt
