@@ -6,3 +6,4 @@ mod Depth
 mod Histories
 mod Gapless
 mod Torn
+mod Legality

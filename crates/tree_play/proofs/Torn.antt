@@ -81,7 +81,7 @@ abbrev base : ℕ → ℕ
 base = address_in (last_memory before torn)
 
 -- what is asked as it was made is shown
-as_made : (made : List Moment) → AreShown (map (λ (m : Moment). m.entry.event) made) made
+pub as_made : (made : List Moment) → AreShown (map (λ (m : Moment). m.entry.event) made) made
 as_made [] = tt
 as_made (m ∷ made) = (shown_self m.memory m.entry.event, as_made made)
 

@@ -13,4 +13,5 @@ pub mod Printing
 pub mod Programs
 pub mod Lines
 pub mod Histories
+pub mod Legality
 pub mod Depth

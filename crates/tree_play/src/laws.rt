@@ -53,6 +53,9 @@ ghost use Rattle.tree_play.specs.Worked.Lines.{HeaderHasTheUsersLine, HeaderCall
 ghost use Rattle.tree_play.specs.Worked.Lines.{PrintingCallHasTheUsersLine};
 ghost use Rattle.tree_play.specs.Worked.Depth.{DepthIsReached, DepthIsPassed};
 ghost use Rattle.tree_play.specs.Worked.Histories.{TornPairIsLegal};
+ghost use Rattle.tree_play.specs.Worked.Legality.{ExitIsTheReturn, RoundsAreBounded};
+ghost use Rattle.tree_play.specs.Worked.Legality.{OthersGoOn, SlotsAreUsedAgain};
+ghost use Rattle.tree_play.specs.Worked.Legality.{FreedMayBeShown};
 
 /// With a greater bound on rounds a thread that was cut goes on, and any other does the same.
 pub fn more_rounds_only_add()
@@ -257,4 +260,13 @@ pub fn calls_have_a_depth()
 /// A worked example: a history in which two threads store a pointer, and what is read back is torn.
 pub fn a_torn_pair_is_legal()
     ensures { TornPairIsLegal }
+{}
+
+/// Worked examples: histories of short programs that are legal, and others that are not.
+pub fn histories_are_told_apart()
+    ensures exit { ExitIsTheReturn }
+    ensures rounds { RoundsAreBounded }
+    ensures others { OthersGoOn }
+    ensures slots { SlotsAreUsedAgain }
+    ensures freed { FreedMayBeShown }
 {}
