@@ -2,11 +2,12 @@
 -- legal, a thread asks for something else.
 use Rattle.std.proofs.Common.{◌≡◌, rules, arith, inl, inr, ⊎_elim, ℕ, zero, suc, List, [], ◌∷◌, refl, ◌∙◌, ap, subst, false}
 use Rattle.std.specs.Prelude.{take, drop}
+use Rattle.filc_num.specs.Integers.{convert_of}
 use Rattle.c_tree.specs.declared.program.FunctionDef.{FunctionDef}
 use Rattle.ideal_machine.specs.declared.value.Half.{Half}
 use Rattle.ideal_machine.specs.declared.value.Half.TheVariants.{Nothing, Freed, Object as ObjectHalf, Function}
 use Rattle.ideal_machine.specs.declared.event.Event.{Event}
-use Rattle.ideal_machine.specs.declared.event.Event.TheVariants.{Check, New, Void, Out, Exit, Trap}
+use Rattle.ideal_machine.specs.declared.event.Event.TheVariants.{Check, GetInt, New, Void, Out, Exit, Trap}
 use Rattle.filc_num.specs.declared.reason.Reason.TheVariants.{Freed as FreedReason}
 use Rattle.ideal_machine.specs.declared.event.Answer.TheVariants.{Done}
 use Rattle.ideal_machine.specs.Memory.{Memory, World, address_in, default_world}
@@ -15,7 +16,7 @@ use Rattle.ideal_machine.proofs.Names.{shown_self}
 use Rattle.tree_play.specs.Legal.{History, Moment, moments, thread_moments, AreAllowed, AreShown, ThreadsPlay, IsLegalHistory, last_memory, memory_before}
 use Rattle.tree_play.specs.Worked.Programs.{program_of}
 use Rattle.tree_play.specs.Worked.Histories.{entry}
-use Rattle.tree_play.specs.Worked.Legality.{MayBe, main_begins, gives_42, ExitIsTheReturn, takes_in, two_bytes, RoundsAreBounded, leaves_one, goes_on, OthersGoOn, starts_two, two_threads, SlotsAreUsedAgain, reads_freed, freed_and_read, freed_twice, FreedMayBeShown}
+use Rattle.tree_play.specs.Worked.Legality.{MayBe, main_begins, gives_42, ExitIsTheReturn, takes_in, two_bytes, RoundsAreBounded, leaves_one, goes_on, OthersGoOn, hands_on, reads_at, OthersReadAnObject, starts_two, two_threads, SlotsAreUsedAgain, reads_freed, freed_and_read, freed_twice, FreedMayBeShown}
 use Rattle.tree_play.proofs.Torn.{lies_at_its_address, as_made}
 
 -- ---- what serves each history
@@ -127,6 +128,52 @@ goes_on_played n =
 
 pub others_go_on : OthersGoOn
 others_go_on n = is_legal (default_world []) leaves_one goes_on n goes_on_allowed (goes_on_played n)
+
+reads_allowed : AreAllowed (default_world []) (before (default_world []) hands_on) (reads_at 4)
+reads_allowed = (
+  record { may_make = (Nothing, refl, inl refl); objects = search rules; answers = refl },
+  search rules,
+  (
+    search rules,
+    search rules,
+    (
+      search rules,
+      search rules,
+      (
+        record { may_make = (ObjectHalf 0, refl, inl refl); objects = search rules; answers = refl },
+        search rules,
+        (
+          search rules,
+          search rules,
+          (
+            search rules,
+            search rules,
+            (
+              search rules,
+              search rules,
+              (search rules, search rules, tt),
+            ),
+          ),
+        ),
+      ),
+    ),
+  ),
+)
+
+reads_played : (n : ℕ) → ThreadsPlay n (program_of hands_on) (base_after (default_world []) hands_on (reads_at 4)) (before (default_world []) hands_on) (reads_at 4)
+unfolding convert_of
+reads_played n =
+    (as_made (made_from (default_world []) hands_on (reads_at 4) 0 1), (tt, (tt, (as_made (made_from (default_world []) hands_on (reads_at 4) 1 4), (tt, (tt, (tt, (tt, tt))))))))
+
+abbrev offset_of : Event → ℕ
+offset_of (GetInt access) = access.offset
+offset_of event = 0
+
+another_offset : (n : ℕ) → ¬ MayBe hands_on n (reads_at 5)
+another_offset n h = absurd (omega (arith, ap offset_of h.played.1.1.1.0.1.0.2, h.addresses 0 _ refl))
+
+pub others_read_an_object : OthersReadAnObject
+others_read_an_object n = (is_legal (default_world []) hands_on (reads_at 4) n reads_allowed (reads_played n), another_offset n)
 
 abbrev byte_of : Event → ℕ
 byte_of (Out byte) = byte

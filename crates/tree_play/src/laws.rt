@@ -55,7 +55,7 @@ ghost use Rattle.tree_play.specs.Worked.Depth.{DepthIsReached, DepthIsPassed};
 ghost use Rattle.tree_play.specs.Worked.Histories.{TornPairIsLegal};
 ghost use Rattle.tree_play.specs.Worked.Legality.{ExitIsTheReturn, RoundsAreBounded};
 ghost use Rattle.tree_play.specs.Worked.Legality.{OthersGoOn, SlotsAreUsedAgain};
-ghost use Rattle.tree_play.specs.Worked.Legality.{FreedMayBeShown};
+ghost use Rattle.tree_play.specs.Worked.Legality.{FreedMayBeShown, OthersReadAnObject};
 
 /// With a greater bound on rounds a thread that was cut goes on, and any other does the same.
 pub fn more_rounds_only_add()
@@ -267,6 +267,7 @@ pub fn histories_are_told_apart()
     ensures exit { ExitIsTheReturn }
     ensures rounds { RoundsAreBounded }
     ensures others { OthersGoOn }
+    ensures objects { OthersReadAnObject }
     ensures slots { SlotsAreUsedAgain }
     ensures freed { FreedMayBeShown }
 {}

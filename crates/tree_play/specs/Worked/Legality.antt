@@ -9,11 +9,11 @@ use Rattle.c_tree.specs.declared.stmt.Stmt.{Run, BreakUnless}
 use Rattle.c_tree.specs.declared.program.FunctionDef.{FunctionDef}
 use Rattle.ideal_machine.specs.declared.value.Half.{Half}
 use Rattle.ideal_machine.specs.declared.value.Half.TheVariants.{Nothing, Freed, Object as ObjectHalf}
-use Rattle.ideal_machine.specs.declared.event.Event.TheVariants.{Check, New, Void, Out, Input, Spawn, Begin, End, Join, Exit, Trap}
+use Rattle.ideal_machine.specs.declared.event.Event.TheVariants.{Check, GetInt, New, Void, Out, Input, Spawn, Begin, End, Join, Exit, Trap}
 use Rattle.ideal_machine.specs.declared.event.Answer.TheVariants.{Granted, Refused, Done, Number, Made}
 use Rattle.ideal_machine.specs.Memory.{default_world}
 use Rattle.tree_play.specs.Legal.{Entry, History, IsLegalHistory}
-use Rattle.tree_play.specs.Worked.Setting.{leaf, one, two, number, local, empty, block_of_two, block_of_three, loop_of, put, set}
+use Rattle.tree_play.specs.Worked.Setting.{leaf, one, two, number, local, bytes_at, empty, block_of_two, block_of_three, loop_of, put, set}
 use Rattle.tree_play.specs.Worked.Programs.{program_of, function_of, main_of, returns}
 use Rattle.tree_play.specs.Worked.Histories.{entry}
 
@@ -74,6 +74,28 @@ goes_on =
 
 abbrev pub OthersGoOn : Type 0
 OthersGoOn = (n : ℕ) → MayBe leaves_one n goes_on
+
+-- an object that `main` made is read by another thread, at the fifth of its bytes: it lies where the last memory has it
+abbrev pub hands_on : List FunctionDef
+hands_on =
+    main_of
+    (block_of_two []
+    (Run (two op.Spawn (leaf (op.Function 1)) (two (op.Advance 1) (one op.New (number 8)) (number 4)))) (returns (number 0)))
+    ∷ function_of false 0 1 (returns (one (op.Load (Integer I8)) (local 0))) ∷ []
+
+abbrev pub reads_at : (offset : ℕ) → History
+reads_at offset =
+    main_begins
+    ∷ entry 0 (New 8 0) (Made 0 65536)
+    ∷ entry 0 (Spawn 1 65540 (ObjectHalf 0)) (Number 1)
+    ∷ entry 1 (Begin 1 65540 (ObjectHalf 0)) Done
+    ∷ entry 1 (Check (ObjectHalf 0) 65540 1 false) Granted
+    ∷ entry 1 (GetInt (bytes_at 0 offset 1)) (Number 0)
+    ∷ entry 1 (End 0) Done
+    ∷ entry 0 (Exit 0) Done ∷ []
+
+abbrev pub OthersReadAnObject : Type 0
+OthersReadAnObject = (n : ℕ) → MayBe hands_on n (reads_at 4) × ¬ MayBe hands_on n (reads_at 5)
 
 -- a slot whose thread was joined is for another one, which has another id: 65 behind 1
 abbrev pub starts_two : List FunctionDef

@@ -1,4 +1,4 @@
-use Rattle.tree_play.proofs.Legality.{exit_is_the_return, rounds_are_bounded, others_go_on, slots_are_used_again, freed_may_be_shown}
+use Rattle.tree_play.proofs.Legality.{exit_is_the_return, rounds_are_bounded, others_go_on, others_read_an_object, slots_are_used_again, freed_may_be_shown}
 use Rattle.tree_play.proofs.laws.histories_are_told_apart.Goals as goal
 
 pub returns-clause-exit : goal.returns-clause-exit
@@ -15,3 +15,6 @@ returns-clause-slots c = slots_are_used_again
 
 pub returns-clause-freed : goal.returns-clause-freed
 returns-clause-freed c = freed_may_be_shown
+
+pub returns-clause-objects : goal.returns-clause-objects
+returns-clause-objects c = others_read_an_object
