@@ -25,8 +25,8 @@ OperatorsCompute =
     × Yields (expr_play (one (op.Convert I8) (number 300)) []) [] [] [] (integer 44)
     × Yields (expr_play (two (op.Binary Lt U32) (number 18446744073709551615) (number 1)) []) [] [] [] (integer 0)
 
--- a result is a value of its type: 200 as an int8_t is -56, the least int has no other negative, in unsigned int `-1u` and
--- `~0u` are the greatest, and `!5` is 0
+-- a result is a value of its type: 200 as an int8_t is -56, the least int is its own negative, `-1u` and `~0u` are the
+-- greatest unsigned int, and `!5` is 0
 abbrev pub OperatorsWrap : Type 0
 OperatorsWrap =
     Yields (expr_play (one (op.Convert I8) (number 200)) []) [] [] [] (integer 18446744073709551560)

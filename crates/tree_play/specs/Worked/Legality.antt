@@ -26,7 +26,7 @@ MayBe functions rounds history = IsLegalHistory history (program_of functions) (
 
 -- ---- one thread
 
--- `int main(void){return 42;}` exits with 42, and with nothing else; it puts nothing out, and makes nothing after its exit
+-- `int main(void){return 42;}` exits with 42 and nothing else, puts nothing out, and makes nothing after its exit
 abbrev pub gives_42 : List FunctionDef
 gives_42 = main_of (returns (number 42)) ∷ []
 

@@ -53,7 +53,7 @@ LinkHasTheChainsLine =
 
 -- ---- headers
 
--- in a header's text that was called at line 1, a link, a home and a byte of printf trap there, though they are at line 7
+-- in a header's text that was called at line 1, a link, a home and a byte of printf trap there, and not at their line 7
 abbrev pub in_header : Around
 in_header = record around { user_line = Some 1 }
 

@@ -65,7 +65,7 @@ abbrev pub PointerIsLookedAtLast : Type 0
 PointerIsLookedAtLast =
     Traps (expr_play (two (op.CallPointer 1) input input) []) (Number 66 ∷ Number 65 ∷ []) (Input ∷ Input ∷ []) NotFunction
 
--- the last argument of an atomic call, its order, is evaluated before the event; the operand that waits for it stays as it is, with its
+-- the last argument of an atomic call, its order, is evaluated before the event; the operand that waits for it keeps its
 -- capability
 abbrev pub before_order : Expr → Expr
 before_order e =

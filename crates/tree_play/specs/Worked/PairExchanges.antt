@@ -53,7 +53,8 @@ ExchangeIsTriedAgain =
     ∷ GetHalf 0 0 ∷ GetInt (bytes_at 0 0 8) ∷ name_of_expected
     ∷ CasHalf 0 0 (SeenFound (FoundPlain Nothing)) (KeptPair 67584 (ObjectHalf 2)) ∷ []) locals (integer 1)
 
--- a pointer to object 3 was seen, and one to object 4 or a freed one was there by then, at the same address: each time once more
+-- a pointer to object 3 was seen, and one to object 4 or a freed one with that address was there by then: each time once
+-- more
 abbrev pub seen_answers : List Answer
 seen_answers = Found (FoundPlain (ObjectHalf 3)) ∷ Number 66560 ∷ Done ∷ []
 

@@ -66,7 +66,7 @@ ThreadEnds =
     thread_of (main_of empty ∷ function_of false 0 1 (returns (local 0)) ∷ []) 1 (integer n) (Done ∷ [])
     ≡ Goes tt n (record { answers = []; events = End n ∷ []; jumps = 0; calls = 0 })
 
--- a call of `main` returns as any other does, in the program's first thread and in another: only a first function ends something
+-- a call of `main` returns as any other call does, in the program's first thread and in another
 abbrev pub one_more : Expr → Expr
 one_more e = two (op.Binary Add I32) e (number 1)
 
