@@ -220,10 +220,11 @@ id_stays code start thread (Some i) is = record {
 }
 
 pub threads_stay : ThreadsStay
-threads_stay code places start thread answer is =
-    (answer_by_keeps thread (IsThreadOf code start) (here code thread) (id_stays code start thread (here code thread) is) answer,
-    step_at_keeps code places thread (IsThreadOf code start) (here code thread) (id_stays code start thread (here code thread) is),
-    record { id = is.id; main = is.main })
+threads_stay code places start thread answer is = (
+  answer_by_keeps thread (IsThreadOf code start) (here code thread) (id_stays code start thread (here code thread) is) answer,
+  step_at_keeps code places thread (IsThreadOf code start) (here code thread) (id_stays code start thread (here code thread) is),
+  record { id = is.id; main = is.main },
+)
 
 -- ---- within an instruction
 
@@ -240,9 +241,10 @@ stands_by thread (Some i) = record {
 }
 
 pub stands_within : StandsWithin
-stands_within code places thread answer =
-    (answer_by_keeps thread (StandsAs thread) (here code thread) (stands_by thread (here code thread)) answer,
-    step_at_keeps code places thread (StandsAs thread) (here code thread) (stands_by thread (here code thread)))
+stands_within code places thread answer = (
+  answer_by_keeps thread (StandsAs thread) (here code thread) (stands_by thread (here code thread)) answer,
+  step_at_keeps code places thread (StandsAs thread) (here code thread) (stands_by thread (here code thread)),
+)
 
 -- ---- rounds
 
@@ -263,7 +265,8 @@ rounds_stay_by code thread (Some i) stands rounds = record {
 }
 
 pub rounds_stay : RoundsStay
-rounds_stay code places thread answer rounds =
-    (answer_by_keeps thread (KeepsRounds code) (here code thread) (rounds_stay_by code thread (here code thread) refl rounds) answer,
-    step_at_keeps code places thread (KeepsRounds code) (here code thread) (rounds_stay_by code thread (here code thread) refl rounds),
-    λ access some. no_round (goes_on thread).at access refl some)
+rounds_stay code places thread answer rounds = (
+  answer_by_keeps thread (KeepsRounds code) (here code thread) (rounds_stay_by code thread (here code thread) refl rounds) answer,
+  step_at_keeps code places thread (KeepsRounds code) (here code thread) (rounds_stay_by code thread (here code thread) refl rounds),
+  λ access some. no_round (goes_on thread).at access refl some,
+)

@@ -161,7 +161,7 @@ StaticWalks =
 abbrev pub library_code : Op → PlainCode
 library_code o = record {
   functions = function_of 1 0 (record { line = 3; library = false; op = op.Call 0 1 0 1 } ∷ returns_zero)
-  ∷ function_of 2 1 (record { line = 1; library = true; op = o } ∷ returns_zero) ∷ [];
+      ∷ function_of 2 1 (record { line = 1; library = true; op = o } ∷ returns_zero) ∷ [];
   statics = [];
   main = 0;
 }
