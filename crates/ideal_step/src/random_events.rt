@@ -39,7 +39,7 @@ impl Random {
         }
     }
 
-    fn found(&mut self) -> Found {
+    fn found_half(&mut self) -> Found {
         match self.below(4) {
             0 => Found::Pair(self.below(64)),
             1 => Found::Plain(self.half()),
@@ -47,7 +47,7 @@ impl Random {
         }
     }
 
-    fn kept(&mut self) -> Kept {
+    fn half_to_keep(&mut self) -> Kept {
         let half = self.half();
         if self.below(2) == 0 {
             Kept::Plain(half)
@@ -100,13 +100,13 @@ impl Random {
             4 => Event::SetHalf {
                 object: self.object,
                 word: self.below(6) as u32,
-                half: self.kept(),
+                half: self.half_to_keep(),
             },
             5 => Event::CasHalf {
                 object: self.object,
                 word: self.below(6) as u32,
                 seen: Seen::Any,
-                new: self.kept(),
+                new: self.half_to_keep(),
             },
             6 => Event::New {
                 bytes: self.below(41),
@@ -161,7 +161,7 @@ impl Random {
             Event::Check { .. } | Event::Void { .. } if first => Answer::Granted,
             Event::Check { .. } | Event::Void { .. } => Answer::Refused(self.reason()),
             Event::GetInt { .. } | Event::CasInt { .. } => Answer::Number(self.below(2)),
-            Event::GetHalf { .. } | Event::CasHalf { .. } => Answer::Found(self.found()),
+            Event::GetHalf { .. } | Event::CasHalf { .. } => Answer::Found(self.found_half()),
             Event::Open { .. } => Answer::Opened(self.below(4), self.half()),
             Event::New { .. } if first => {
                 Answer::Made(objects, 65_536 + 8 * self.below(1_000_000) + self.below(2))

@@ -14,6 +14,55 @@ use ideal_machine::{Answer, Event, Finish};
 use std::alloc::{AllocError, Global};
 
 impl Ideal {
+    /// Makes the change of an event that is allowed and done, with nothing to tell.
+    fn make_done(&mut self, input: &[u8], actor: u32, event: &Event) -> Result<(), AllocError>
+        requires { IsAllowed (default_world input.now) self.old actor event.now Answer.Done }
+        ensures done { IfOk result (λ _. self.new ≡ effect_of self.old actor event.now Answer.Done) }
+        ensures unchanged { OnErr result (self.new ≡ self.old) }
+    {
+        match *event {
+            Event::SetInt { access, value } => self.put_integer(&access, value),
+            Event::Lock { object, offset } => self.put_integer(&lock_access(object, offset), 1),
+            Event::SetHalf { object, word, half } => return self.put_half(object, word, half),
+            Event::Out { byte } => return self.put_byte(byte),
+            Event::Begin { .. } => self.set_state(u64::from(actor), State::Running),
+            Event::End { result } => self.set_state(u64::from(actor), State::Ended(result)),
+            Event::Collected { cycle } => self.set_cycles(cycle),
+            Event::Exit { status } => self.set_finish(Finish::Exited(status)),
+            Event::Trap { reason, line } => self.set_finish(Finish::Trapped(reason, line)),
+            _ => {}
+        }
+        Ok(())
+    }
+
+    /// Makes the change of an event that is allowed and gives a number.
+    fn make_number(&mut self, input: &[u8], actor: u32, event: &Event, number: u64)
+        requires { IsAllowed (default_world input.now) self.old actor event.now
+            (Answer.Number number) }
+        ensures { self.new ≡ effect_of self.old actor event.now (Answer.Number number) }
+    {
+        match *event {
+            Event::RmwInt {
+                access,
+                operation,
+                value,
+            } => self.put_result(&access, operation, value),
+            Event::CasInt {
+                access,
+                expected,
+                desired,
+            } => self.exchange_integer(&access, expected, desired),
+            Event::Input => self.take_byte(),
+            Event::Spawn {
+                function,
+                address,
+                half,
+            } => self.set_state(number % 64, State::Started(function, address, half)),
+            Event::Join { id } => self.pass_on(id % 64),
+            _ => {}
+        }
+    }
+
     /// Makes the change of an event that is allowed with this answer.
     fn make(
         &mut self,
@@ -27,75 +76,23 @@ impl Ideal {
         ensures done { IfOk result (λ _. self.new ≡ effect_of self.old actor event.now answer.now) }
         ensures unchanged { OnErr result (self.new ≡ self.old) }
     {
-        match *event {
-            Event::SetInt { access, value } => self.put_integer(&access, value),
-            Event::RmwInt {
-                access,
-                operation,
-                value,
-            } => self.put_result(&access, operation, value),
-            Event::CasInt {
-                access,
-                expected,
-                desired,
-            } => self.exchange_integer(&access, expected, desired),
-            Event::Lock { object, offset } => self.put_integer(&lock_access(object, offset), 1),
-            Event::SetHalf { object, word, half } => return self.put_half(object, word, half),
-            Event::CasHalf {
-                object,
-                word,
-                seen,
-                new,
-            } => {
-                if let Answer::Found(found) = *answer {
-                    return self.exchange_half(object, word, seen, found, new);
-                }
+        match (*event, *answer) {
+            (_, Answer::Done) => return self.make_done(input, actor, event),
+            (_, Answer::Number(number)) => self.make_number(input, actor, event, number),
+            (
+                Event::CasHalf {
+                    object,
+                    word,
+                    seen,
+                    new,
+                },
+                Answer::Found(found),
+            ) => return self.exchange_half(object, word, seen, found, new),
+            (Event::New { bytes, kind }, Answer::Made(_, address)) => {
+                return self.add_object(alloc, bytes, kind, address);
             }
-            Event::New { bytes, kind } => {
-                if let Answer::Made(_, address) = *answer {
-                    return self.add_object(alloc, bytes, kind, address);
-                }
-            }
-            Event::Void { half, .. } => {
-                if let Answer::Granted = *answer {
-                    self.free(half);
-                }
-            }
-            Event::Out { byte } => {
-                if let Answer::Done = *answer {
-                    return self.put_byte(byte);
-                }
-            }
-            Event::Input => {
-                if let Answer::Number(_) = *answer {
-                    self.take_byte();
-                }
-            }
-            Event::Spawn {
-                function,
-                address,
-                half,
-            } => {
-                if let Answer::Number(id) = *answer {
-                    self.set_state(id % 64, State::Started(function, address, half));
-                }
-            }
-            Event::Begin { .. } => self.set_state(u64::from(actor), State::Running),
-            Event::End { result } => self.set_state(u64::from(actor), State::Ended(result)),
-            Event::Join { id } => {
-                if let Answer::Number(_) = *answer {
-                    self.pass_on(id % 64);
-                }
-            }
-            Event::Collected { cycle } => self.set_cycles(cycle),
-            Event::Exit { status } => self.set_finish(Finish::Exited(status)),
-            Event::Trap { reason, line } => self.set_finish(Finish::Trapped(reason, line)),
-            Event::Check { .. }
-            | Event::GetInt { .. }
-            | Event::GetHalf { .. }
-            | Event::Open { .. }
-            | Event::Size { .. }
-            | Event::Name { .. } => {}
+            (Event::Void { half, .. }, Answer::Granted) => self.free(half),
+            _ => {}
         }
         Ok(())
     }
