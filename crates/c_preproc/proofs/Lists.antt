@@ -1,8 +1,8 @@
 -- Lists of tokens: what holds of all, of their parts, and of two lists side by side.
-use Rattle.std.proofs.Common.{◌≡◌, ℕ, zero, suc, ◌+◌, ◌<◌, ◌&&◌, List, [], ◌∷◌, ◌++◌, Bool, true, false, refl, ap, sym, ◌∙◌, arith, length, get_or, take, drop}
+use Rattle.std.proofs.Common.{◌≡◌, ℕ, zero, suc, ◌+◌, ◌<◌, ◌&&◌, List, [], ◌∷◌, ◌++◌, Bool, true, false, refl, ap, sym, ◌∙◌, arith, length, get_or, take, drop, Some}
 use Rattle.std.proofs.lemmas.Bool.{and_parts}
 use Rattle.std.proofs.lemmas.List.{drop_more}
-use Rattle.std.specs.List.{list_all}
+use Rattle.std.specs.List.{list_all, slice_get}
 use Rattle.c_lexer.specs.declared.token.Token.{Token}
 use Rattle.c_preproc.specs.Texts.{same_token, same_tokens}
 
@@ -55,6 +55,18 @@ all_behind p all x xs is h = (and_parts (p x) (list_all p xs) (ap (list_all p) (
 -- the first of what is left of a list
 pub drop_read : {X : Type 0} (xs : List X) (i : ℕ) (x : X) → i < length xs → x ≡ get_or xs i x → drop i xs ≡ x ∷ drop (i + 1) xs
 drop_read xs i x h is = drop_more xs i x h ∙ ap (λ y. y ∷ drop (i + 1) xs) (sym is)
+
+-- an element stays where it is in a longer list
+pub slice_get_before : {X : Type 0} (xs more : List X) (i : ℕ) (x : X) → slice_get xs i ≡ Some x → slice_get (xs ++ more) i ≡ Some x
+slice_get_before [] more i x h = cc
+slice_get_before (y ∷ xs) more zero x h = h
+slice_get_before (y ∷ xs) more (suc i) x h = slice_get_before xs more i x h
+
+pub slice_get_last : {X : Type 0} (xs : List X) (x : X) (i : ℕ) → i ≡ length xs → slice_get (xs ++ x ∷ []) i ≡ Some x
+slice_get_last [] x zero h = refl
+slice_get_last [] x (suc i) h = absurd (omega arith)
+slice_get_last (y ∷ xs) x zero h = absurd (omega arith)
+slice_get_last (y ∷ xs) x (suc i) h = slice_get_last xs x i (omega arith)
 
 -- ---- two lists of tokens
 

@@ -22,6 +22,7 @@ use Rattle.c_preproc.specs.declared.expander.Expander.{Expander}
 use Rattle.c_preproc.specs.declared.expander.Kept.{Kept}
 use Rattle.c_preproc.specs.Code.Table.{Index, place_of, macro_of_entry, is_place, defined_from, defined_of, IsIndexed, body_of, body_at}
 use Rattle.c_preproc.specs.Code.Expander.{Setting, IsStore, LeavesOut, macros_of, but_for}
+use Rattle.c_preproc.proofs.Lists.{slice_get_before, slice_get_last}
 use Rattle.c_preproc.proofs.LeftOut.{leads_below, same_text_then, then_same_text, not_same}
 
 -- ---- the index, by names
@@ -198,15 +199,6 @@ leaves_nothing_out s indexed = record { same = λ name. by name (s.places name) 
 
 -- ---- the table between calls
 
-slice_get_before : (es fs : List Entry) (p : ℕ) (e : Entry) → slice_get es p ≡ Some e → slice_get (es ++ fs) p ≡ Some e
-slice_get_before [] fs p e h = cc
-slice_get_before (x ∷ es) fs zero e h = h
-slice_get_before (x ∷ es) fs (suc p) e h = slice_get_before es fs p e h
-
-slice_get_last : (es : List Entry) (e : Entry) → slice_get (es ++ e ∷ []) (length es) ≡ Some e
-slice_get_last [] e = refl
-slice_get_last (x ∷ es) e = slice_get_last es e
-
 indexed-push : (places new : List ℕ → Option ℕ) (entries : List Entry) (e : Entry) → IsIndexed places entries → Changes places new e.name.items (Some (length entries)) → IsIndexed new (entries ++ e ∷ [])
 indexed-push places new entries e indexed changes name place leads = by (same_text e.name.items name) refl
   where
@@ -215,7 +207,7 @@ indexed-push places new entries e indexed changes name place leads = by (same_te
         let same = same_text_then e.name.items name s in
         let last : Some (length entries) ≡ Some place = sym changes.here ∙ ap new same ∙ leads in
         let here : length entries ≡ place = cc in
-        subst (λ o. IsSomeAnd o (λ x. x.name.items ≡ name)) (sym (slice_get_last entries e) ∙ ap (slice_get (entries ++ e ∷ [])) here) same
+        subst (λ o. IsSomeAnd o (λ x. x.name.items ≡ name)) (sym (slice_get_last entries e (length entries) refl) ∙ ap (slice_get (entries ++ e ∷ [])) here) same
     by false s =
         let at = entry_at places entries indexed name place (sym (changes.others name (not_same _ _ s)) ∙ leads) in
         subst (λ o. IsSomeAnd o (λ x. x.name.items ≡ name)) (sym (slice_get_before entries (e ∷ []) place at.0 at.1)) at.2

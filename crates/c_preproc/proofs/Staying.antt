@@ -1,5 +1,5 @@
--- What is kept stays so where a name is defined that stands in no macro's tokens.
-use Rattle.std.proofs.Common.{◌≡◌, ℕ, zero, suc, ◌+◌, ◌<◌, ◌≤◌, ◌&&◌, ◌||◌, not, Bool, true, false, cond, List, [], ◌∷◌, ◌++◌, length, get_or, take, Option, Some, None, is_some, refl, sym, ap, ◌∙◌, subst, arith}
+-- What is kept stays so where a name is defined or undefined that stands in no macro's tokens.
+use Rattle.std.proofs.Common.{◌≡◌, ◌≢◌, ℕ, zero, suc, ◌+◌, ◌<◌, ◌≤◌, ◌&&◌, ◌||◌, not, Bool, true, false, cond, List, [], ◌∷◌, ◌++◌, length, get_or, take, Option, Some, None, is_some, refl, sym, ap, ◌∙◌, subst, arith}
 use Rattle.std.specs.List.{flat_map, list_all, slice_get}
 use Rattle.std.specs.Option.{option_map, option_map_or}
 use Rattle.std.proofs.lemmas.Bool.{and_parts, false≢true}
@@ -14,9 +14,9 @@ use Rattle.c_preproc.specs.Code.Table.{IsIndexed, body_at, body_of}
 use Rattle.c_preproc.specs.Code.NameFilter.{AreIn, IsMore, is_in, may_have}
 use Rattle.c_preproc.specs.Code.Expander.{Setting, IsStore, LeavesOut, NameYields, but_for, entry_of, if_of, is_kept, is_one_of, part_of}
 use Rattle.c_preproc.proofs.Depth.{length-body, names_are_replaced}
-use Rattle.c_preproc.proofs.LeftOut.{entry_leads, macro_of-without, not_same, same_text_then}
-use Rattle.c_preproc.proofs.Lists.{all_push}
-use Rattle.c_preproc.proofs.MacroTable.{Changes, entry_at, store_empty}
+use Rattle.c_preproc.proofs.LeftOut.{entry_leads, macro_of-without, not_same, same_text_then, then_same_text}
+use Rattle.c_preproc.proofs.Lists.{all_push, slice_get_before}
+use Rattle.c_preproc.proofs.MacroTable.{entry_at, store_empty}
 
 -- ---- a macro whose name stands nowhere
 
@@ -142,91 +142,118 @@ store_after false s s' x x' none stays seats spots longer same carries store = s
 pub carries_same : (s : Setting) → Carries s s
 carries_same s kept entry out below h = h
 
--- ---- one entry more
+-- ---- another table
 
-slice_get_more : (es fs : List Entry) (p : ℕ) (e : Entry) → slice_get es p ≡ Some e → slice_get (es ++ fs) p ≡ Some e
-slice_get_more [] fs p e h = cc
-slice_get_more (x ∷ es) fs zero e h = h
-slice_get_more (x ∷ es) fs (suc p) e h = slice_get_more es fs p e h
-
-module _ (bytes : List ℕ) (places : List ℕ → Option ℕ) (entries more : List Entry) (indexed : IsIndexed places entries) (e : Entry) (pushed : more ≡ entries ++ e ∷ []) where
+module _ (bytes : List ℕ) (places new : List ℕ → Option ℕ) (entries more : List Entry) (bodies : (name : List ℕ) (place : ℕ) → places name ≡ Some place → body_at more place ≡ body_at entries place) where
   abbrev before : Setting
   before = record { bytes = bytes; places = places; entries = entries }
 
-  body_more : (name : List ℕ) (place : ℕ) → places name ≡ Some place → body_at more place ≡ body_at entries place
-  body_more name place leads =
-      let at = entry_at places entries indexed name place leads in
-      ap (λ es. body_of (slice_get es place)) pushed ∙ ap body_of (slice_get_more entries (e ∷ []) place at.0 at.1 ∙ sym at.1)
+  abbrev after : Setting
+  after = record { bytes = bytes; places = new; entries = more }
 
-  bodies_more : (hidden : List ℕ) (name : List ℕ) (o : Option ℕ) → places name ≡ o → option_map (body_at more) (but_for hidden o) ≡ option_map (body_at entries) (but_for hidden o)
-  bodies_more hidden name None f = refl
-  bodies_more hidden name (Some place) f = by (is_one_of hidden place)
+  same_bodies : (hidden name : List ℕ) (o : Option ℕ) → places name ≡ o → option_map (body_at more) (but_for hidden o) ≡ option_map (body_at entries) (but_for hidden o)
+  same_bodies hidden name None f = refl
+  same_bodies hidden name (Some place) f = by (is_one_of hidden place)
     where
       by : (b : Bool) → option_map (body_at more) (cond b None (Some place)) ≡ option_map (body_at entries) (cond b None (Some place))
       by true = refl
-      by false = ap Some (body_more name place f)
+      by false = ap Some (bodies name place f)
 
-  -- the index leads to it from nowhere
-  module _ (new : List ℕ → Option ℕ) (same : new ≡ places) where
-    pub carries_unmade : Carries before (record { bytes = bytes; places = new; entries = more })
-    carries_unmade = subst (λ p. Carries before (record { bytes = bytes; places = p; entries = more })) (sym same)
-        (λ kept entry out below h hidden macros leaves apart. h hidden macros (record { same = λ name. leaves.same name ∙ bodies_more hidden name (places name) refl }) apart)
+  -- no name leads elsewhere
+  pub carries_unmade : new ≡ places → Carries before after
+  carries_unmade same = subst (λ p. Carries before (record { bytes = bytes; places = p; entries = more })) (sym same)
+      (λ kept entry out below h hidden macros leaves apart. h hidden macros (record { same = λ name. leaves.same name ∙ same_bodies hidden name (places name) refl }) apart)
 
-  -- or from a name that stands in no macro's tokens
-  module _ (new : List ℕ → Option ℕ) (name : List ℕ) (changes : Changes places new name (Some (length entries))) (slots : List Bool) (none : may_have slots name ≡ false) (filtered : (place : ℕ) → AreIn slots bytes (body_at entries place)) (absent : places name ≡ None) where
-    abbrev after : Setting
-    after = record { bytes = bytes; places = new; entries = more }
+  -- one name does, which stands in no macro's tokens, and leads to none of the old entries
+  module _ (name : List ℕ) (slots : List Bool) (none : may_have slots name ≡ false) (filtered : (place : ℕ) → AreIn slots bytes (body_at entries place)) (others : (other : List ℕ) → name ≢ other → new other ≡ places other)
+      (gone : (place : ℕ) → place < length entries → new name ≡ Some place → ⊥) where
+    abbrev IsOther : List ℕ → List Macro → Type 0
+    IsOther hidden macros = (other : List ℕ) → same_text name other ≡ false → option_map (λ macro. macro.body) (macro_of macros other) ≡ option_map (body_at entries) (but_for hidden (places other))
+
+    nowhere : (hidden : List ℕ) (macros : List Macro) → IsOther hidden macros → StandsNowhere bytes name macros
+    nowhere hidden macros same other body f apart = at (places other) (sym (same other apart) ∙ f)
+      where
+        at : (o : Option ℕ) → option_map (body_at entries) (but_for hidden o) ≡ Some body → list_all (is_other bytes name) body ≡ true
+        at None k = cc
+        at (Some place) k = shown (is_one_of hidden place) k
+          where
+            shown : (b : Bool) → option_map (body_at entries) (cond b None (Some place)) ≡ Some body → list_all (is_other bytes name) body ≡ true
+            shown true k = cc
+            shown false k = let is : body_at entries place ≡ body = cc in subst (λ ts. list_all (is_other bytes name) ts ≡ true) is (not_in slots bytes name (body_at entries place) none (filtered place))
 
     -- another name that leads to an old entry
-    leads_before : (other : List ℕ) (place : ℕ) → place < length entries → new other ≡ Some place → (same_text name other ≡ false) × (places other ≡ Some place)
-    leads_before other place below leads = by (same_text name other) refl
-      where
-        by : (b : Bool) → same_text name other ≡ b → (same_text name other ≡ false) × (places other ≡ Some place)
-        by true f =
-            let last : Some (length entries) ≡ Some place = sym changes.here ∙ ap new (same_text_then name other f) ∙ leads in
-            let is : length entries ≡ place = cc in
-            absurd (omega arith)
-        by false f = (f, sym (changes.others other (not_same _ _ f)) ∙ leads)
+    leads_before : (other : List ℕ) (place : ℕ) → place < length entries → new other ≡ Some place → (b : Bool) → same_text name other ≡ b → (same_text name other ≡ false) × (places other ≡ Some place)
+    leads_before other place below leads true f = absurd (gone place below (ap new (same_text_then name other f) ∙ leads))
+    leads_before other place below leads false f = (f, sym (others other (not_same _ _ f)) ∙ leads)
 
-    leaves_before : (hidden : List ℕ) (macros : List Macro) → LeavesOut after hidden macros → LeavesOut before hidden (without macros name)
-    leaves_before hidden macros leaves = record { same = λ other. ap (option_map (λ macro. macro.body)) (macro_of-without macros name other) ∙ by other (same_text name other) refl }
-      where
-        by : (other : List ℕ) (b : Bool) → same_text name other ≡ b → option_map (λ macro. macro.body) (cond b None (macro_of macros other)) ≡ option_map (body_at entries) (but_for hidden (places other))
-        by other true f = ap (λ o. option_map (body_at entries) (but_for hidden o)) (sym absent ∙ ap places (same_text_then name other f))
-        by other false f =
-            leaves.same other ∙ ap (λ o. option_map (body_at more) (but_for hidden o)) (changes.others other (not_same _ _ f)) ∙ bodies_more hidden other (places other) refl
-
-    nowhere : (hidden : List ℕ) (macros : List Macro) → LeavesOut after hidden macros → StandsNowhere bytes name macros
-    nowhere hidden macros leaves other body f apart =
-        by (places other) refl (sym (leaves.same other ∙ ap (λ o. option_map (body_at more) (but_for hidden o)) (changes.others other (not_same _ _ apart)) ∙ bodies_more hidden other (places other) refl) ∙ f)
-      where
-        by : (o : Option ℕ) → places other ≡ o → option_map (body_at entries) (but_for hidden (places other)) ≡ Some body → list_all (is_other bytes name) body ≡ true
-        by o g k = at o (ap (λ o. option_map (body_at entries) (but_for hidden o)) (sym g) ∙ k)
-          where
-            at : (o : Option ℕ) → option_map (body_at entries) (but_for hidden o) ≡ Some body → list_all (is_other bytes name) body ≡ true
-            at None k = cc
-            at (Some place) k = shown (is_one_of hidden place) k
-              where
-                shown : (b : Bool) → option_map (body_at entries) (cond b None (Some place)) ≡ Some body → list_all (is_other bytes name) body ≡ true
-                shown true k = cc
-                shown false k = let is : body_at entries place ≡ body = cc in subst (λ ts. list_all (is_other bytes name) ts ≡ true) is (not_in slots bytes name (body_at entries place) none (filtered place))
-
-    pub carries_made : Carries before after
-    carries_made kept entry out below h hidden macros leaves apart t names =
-        let text = text_of bytes t in
-        let was = leads_before text entry below (entry_leads after t entry names) in
+    pub carries_changed : Carries before after
+    carries_changed kept entry out below h hidden macros leaves apart t names =
+        let was = leads_before (text_of bytes t) entry below (entry_leads after t entry names) (same_text name (text_of bytes t)) refl in
         let other : is_other bytes name t ≡ true = ap (λ b. not (is_name t && b)) was.0 ∙ not_and_false (is_name t) in
-        let named : entry_of before t ≡ Some entry = by (is_name t) names was.1 in
-        makes_no_difference (length macros) bytes name macros t (omega arith) (nowhere hidden macros leaves) other
-        ∙ h hidden (without macros name) (leaves_before hidden macros leaves) apart t named
+        makes_no_difference (length macros) bytes name macros t (omega arith) (nowhere hidden macros all_others) other
+        ∙ by (named (is_name t) names was.1) other (but_for hidden (places name)) refl
       where
         not_and_false : (b : Bool) → not (b && false) ≡ true
         not_and_false true = refl
         not_and_false false = refl
 
-        by : (b : Bool) → cond b (new (text_of bytes t)) None ≡ Some entry → places (text_of bytes t) ≡ Some entry → cond b (places (text_of bytes t)) None ≡ Some entry
-        by true g k = k
-        by false g k = g
+        named : (b : Bool) → cond b (new (text_of bytes t)) None ≡ Some entry → places (text_of bytes t) ≡ Some entry → cond b (places (text_of bytes t)) None ≡ Some entry
+        named true g k = k
+        named false g k = g
+
+        all_others : IsOther hidden macros
+        all_others other f = leaves.same other ∙ ap (λ o. option_map (body_at more) (but_for hidden o)) (others other (not_same _ _ f)) ∙ same_bodies hidden other (places other) refl
+
+        less : List Macro
+        less = without macros name
+
+        less_others : IsOther hidden less
+        less_others other f = ap (option_map (λ macro. macro.body)) (macro_of-without macros name other ∙ ap (λ b. cond b None (macro_of macros other)) f) ∙ all_others other f
+
+        by : entry_of before t ≡ Some entry → is_other bytes name t ≡ true → (o : Option ℕ) → but_for hidden (places name) ≡ o → replacement_of bytes less t ≡ out
+        by is other None e = h hidden less (record { same = λ n. at n (same_text name n) refl }) apart t is
+          where
+            at : (n : List ℕ) (b : Bool) → same_text name n ≡ b → option_map (λ macro. macro.body) (macro_of less n) ≡ option_map (body_at entries) (but_for hidden (places n))
+            at n false f = less_others n f
+            at n true f =
+                ap (option_map (λ macro. macro.body)) (macro_of-without macros name n ∙ ap (λ b. cond b None (macro_of macros n)) f)
+                ∙ sym (ap (option_map (body_at entries)) e) ∙ ap (λ x. option_map (body_at entries) (but_for hidden (places x))) (same_text_then name n f)
+        by is other (Some place) e =
+            makes_no_difference (length less) bytes name less t (omega arith) (nowhere hidden less less_others) other
+            ∙ ap (λ ms. replacement_of bytes ms t) (sym first_gone)
+            ∙ sym (makes_no_difference (length (m ∷ less)) bytes name (m ∷ less) t (omega arith) (nowhere hidden (m ∷ less) with_others) other)
+            ∙ h hidden (m ∷ less) (record { same = λ n. at n (same_text name n) refl }) apart t is
+          where
+            m : Macro
+            m = record { name = name; body = body_at entries place }
+
+            first_gone : without (m ∷ less) name ≡ without less name
+            first_gone = ap (λ b. cond (not b) (m ∷ without less name) (without less name)) (then_same_text name name refl)
+
+            with_others : IsOther hidden (m ∷ less)
+            with_others other f = ap (λ b. option_map (λ macro. macro.body) (cond b (Some m) (macro_of less other))) f ∙ less_others other f
+
+            at : (n : List ℕ) (b : Bool) → same_text name n ≡ b → option_map (λ macro. macro.body) (macro_of (m ∷ less) n) ≡ option_map (body_at entries) (but_for hidden (places n))
+            at n false f = with_others n f
+            at n true f =
+                ap (λ b. option_map (λ macro. macro.body) (cond b (Some m) (macro_of less n))) f
+                ∙ sym (ap (option_map (body_at entries)) e) ∙ ap (λ x. option_map (body_at entries) (but_for hidden (places x))) (same_text_then name n f)
+
+-- what leads to a new entry or nowhere leads to no old one
+pub not_old : (o : Option ℕ) (last place size : ℕ) → o ≡ Some last → last ≡ size → place < size → o ≡ Some place → ⊥
+not_old o last place size h e below g =
+    let same : Some last ≡ Some place = sym h ∙ g in
+    let is : last ≡ place = cc in
+    absurd (omega arith)
+
+pub not_there : (o : Option ℕ) (place : ℕ) → o ≡ None → o ≡ Some place → ⊥
+not_there o place h g = cc
+
+-- one entry more leaves the tokens of the others
+pub body_more : (places : List ℕ → Option ℕ) (entries more : List Entry) → IsIndexed places entries → (e : Entry) → more ≡ entries ++ e ∷ [] → (name : List ℕ) (place : ℕ) → places name ≡ Some place → body_at more place ≡ body_at entries place
+body_more places entries more indexed e pushed name place leads =
+    let at = entry_at places entries indexed name place leads in
+    ap (λ es. body_of (slice_get es place)) pushed ∙ ap body_of (slice_get_before entries (e ∷ []) place at.0 at.1 ∙ sym at.1)
 
 -- ---- no more than a 0 behind the spots
 

@@ -12,6 +12,7 @@ use Rattle.c_preproc.specs.declared.macros.Entry.{Entry}
 use Rattle.c_preproc.specs.Code.Table.{body_at, body_of}
 use Rattle.c_preproc.specs.declared.expander.Kept.{Kept}
 use Rattle.c_preproc.specs.Code.Expander.{Setting, AllKept, IsKept, NameYields, if_of, is_kept, part_of}
+use Rattle.c_preproc.proofs.Lists.{slice_get_before, slice_get_last}
 use Rattle.c_preproc.proofs.Yields.{AtLeast, name_yields_more}
 
 pub part-append : (tokens more : List Token) (start end : ℕ) → end ≤ length tokens → part_of (tokens ++ more) start end ≡ part_of tokens start end
@@ -40,17 +41,6 @@ kept_grown s spots kept tokens more all index k there =
     }
 
 -- ---- one more
-
-slice_get_before : (ks more : List Kept) (i : ℕ) (k : Kept) → slice_get ks i ≡ Some k → slice_get (ks ++ more) i ≡ Some k
-slice_get_before [] more i k h = cc
-slice_get_before (x ∷ ks) more zero k h = h
-slice_get_before (x ∷ ks) more (suc i) k h = slice_get_before ks more i k h
-
-slice_get_last : (ks : List Kept) (k : Kept) (i : ℕ) → i ≡ length ks → slice_get (ks ++ k ∷ []) i ≡ Some k
-slice_get_last [] k zero h = refl
-slice_get_last [] k (suc i) h = absurd (omega arith)
-slice_get_last (x ∷ ks) k zero h = absurd (omega arith)
-slice_get_last (x ∷ ks) k (suc i) h = slice_get_last ks k i (omega arith)
 
 -- an element of the longer list is the last one, or was there
 slice_get_parts : (ks : List Kept) (k : Kept) (i : ℕ) (o : Option Kept) → slice_get (ks ++ k ∷ []) i ≡ o → (o ≡ Some k) ⊎ (slice_get ks i ≡ o)

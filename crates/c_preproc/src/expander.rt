@@ -8,8 +8,8 @@
 //! 3. What the outermost frame put into the store is copied behind the list.
 //!
 //! So a name is gone through once, but for those that lead back to themselves, and an expansion to
-//! nothing is the case of no tokens. What is kept holds until a macro is undefined, or a name is defined
-//! that stands in a macro's tokens.
+//! nothing is the case of no tokens. What is kept holds until a name is defined or undefined that stands in
+//! a macro's tokens.
 //!
 //! Which entries are open, and which are kept, are sparse sets (Briggs and Torczon): an entry is one of
 //! them if the element at its index is its own. So neither the seats nor the spots are ever cleaned.

@@ -191,13 +191,14 @@ impl Macros {
         self.define(alloc, &name, body)
     }
 
-    /// No macro has the token's name any more.
+    /// No macro has the token's name any more. What is kept stays so where no macro's tokens have the name.
     pub fn undefine(&mut self, name: Token)
         ensures bytes { self.new.bytes ≡ self.old.bytes }
         ensures macros { self.new.macros ≡ without self.old.macros (text_of self.old.bytes name) }
     {
-        self.expander.forget();
-        let _ = self.table.index.remove(text_of(&self.bytes, name));
+        let name = text_of(&self.bytes, name);
+        self.expander.forget_where(self.names.may_have(name));
+        let _ = self.table.index.remove(name);
     }
 
     /// Appends what the token expands to, if the list isn't too long then.

@@ -5,8 +5,8 @@ use Rattle.c_preproc.specs.Code.Expander.{setting_of}
 use Rattle.c_preproc.specs.Macros.{Macro, macro_of}
 use Rattle.c_preproc.specs.Code.Table.{IsIndexed, body_at, defined_of, place_of}
 use Rattle.c_preproc.specs.Code.NameFilter.{AreIn, may_have}
-use Rattle.c_preproc.proofs.MacroTable.{Changes, changed_by, made_indexed, made_macro, on_err, same_places, then_absent, unmade_indexed, unmade_macro}
-use Rattle.c_preproc.proofs.Staying.{Carries, carries_made, carries_same, carries_unmade, filtered_on, filtered_push, store_after}
+use Rattle.c_preproc.proofs.MacroTable.{changed_by, made_indexed, made_macro, on_err, same_places, unmade_indexed, unmade_macro}
+use Rattle.c_preproc.proofs.Staying.{Carries, body_more, carries_changed, carries_same, carries_unmade, filtered_on, filtered_push, not_old, store_after}
 use Rattle.c_preproc.proofs.macros.Macros.define.Goals as goal
 
 -- no memory, and the table as it was
@@ -66,7 +66,8 @@ invariant_of-self-in_err-insert c =
           (omega (arith, c.self.invariant.store.seats, ap length c.forget_where.ensures.seats, c.in_ok-grow.ensures.seats, size))
           (omega (arith, c.self.invariant.store.spots, ap length c.forget_where.ensures.spots, c.in_ok-grow.ensures.spots, size)) (omega (arith, size))
           (λ i. c.grow.ensures.same_spots i ∙ ap (λ spots. get_or spots i 0) c.forget_where.ensures.spots)
-          (λ free. carries_unmade m.bytes.items (place_of m.table.index) m.table.entries.items c.push.new.self.items c.self.invariant.indexed e pushed (place_of c.insert.new.self) (same_places m.table.index c.insert.new.self c.in_err-insert.ensures.err)) c.self.invariant.store;
+          (λ free. carries_unmade m.bytes.items (place_of m.table.index) (place_of c.insert.new.self) m.table.entries.items c.push.new.self.items
+          (body_more (place_of m.table.index) m.table.entries.items c.push.new.self.items c.self.invariant.indexed e pushed) (same_places m.table.index c.insert.new.self c.in_err-insert.ensures.err)) c.self.invariant.store;
       filtered = filtered;
     }
 
@@ -91,7 +92,6 @@ invariant_of-self-2 c =
     subst (λ es. (place : ℕ) → AreIn filter m.bytes.items (body_at es place)) (sym pushed) (filtered_push m.names.slots.items filter m.bytes.items m.table.entries.items e c.add_all.ensures.more added c.self.invariant.filtered) in
     let changes = changed_by m.table.index c.insert.new.self c.in_ok-key.key.items (Some c.len-place.result) c.in_ok-insert.ensures.updates in
     let last : c.len-place.result ≡ length m.table.entries.items = c.len-place.ensures ∙ m.table.entries.ok.0 in
-    let absent : macro_of (defined_of (place_of m.table.index) m.table.entries.items) c.in_ok-key.key.items ≡ None = ap (λ d. macro_of d.macros c.in_ok-key.key.items) c.self.view_is ∙ ap (macro_of c.args.self.now.macros) c.in_ok-key.ensures.items ∙ c.requires in
     record {
       indexed = made_indexed (place_of m.table.index) m.table.entries.items c.push.new.self.items c.self.invariant.indexed e pushed (place_of c.insert.new.self) c.in_ok-key.key.items (c.in_ok-key.ensures.items ∙ sym c.in_ok-from_slice.ensures.items) c.len-place.result last changes;
       digits = c.self.invariant.digits;
@@ -101,9 +101,10 @@ invariant_of-self-2 c =
           (omega (arith, c.self.invariant.store.seats, ap length c.forget_where.ensures.seats, c.in_ok-grow.ensures.seats, size))
           (omega (arith, c.self.invariant.store.spots, ap length c.forget_where.ensures.spots, c.in_ok-grow.ensures.spots, size)) (omega (arith, size))
           (λ i. c.grow.ensures.same_spots i ∙ ap (λ spots. get_or spots i 0) c.forget_where.ensures.spots)
-          (λ free. carries_made m.bytes.items (place_of m.table.index) m.table.entries.items c.push.new.self.items c.self.invariant.indexed e pushed (place_of c.insert.new.self) c.in_ok-key.key.items
-          (subst (λ n. Changes (place_of m.table.index) (place_of c.insert.new.self) c.in_ok-key.key.items (Some n)) last changes) m.names.slots.items (ap (may_have m.names.slots.items) c.in_ok-key.ensures.items ∙ sym c.may_have.ensures ∙ free) c.self.invariant.filtered
-          (then_absent (place_of m.table.index) m.table.entries.items c.self.invariant.indexed c.in_ok-key.key.items absent)) c.self.invariant.store;
+          (λ free. carries_changed m.bytes.items (place_of m.table.index) (place_of c.insert.new.self) m.table.entries.items c.push.new.self.items
+          (body_more (place_of m.table.index) m.table.entries.items c.push.new.self.items c.self.invariant.indexed e pushed) c.in_ok-key.key.items
+          m.names.slots.items (ap (may_have m.names.slots.items) c.in_ok-key.ensures.items ∙ sym c.may_have.ensures ∙ free) c.self.invariant.filtered changes.others
+          (λ place below leads. not_old _ c.len-place.result place (length m.table.entries.items) changes.here last below leads)) c.self.invariant.store;
       filtered = filtered;
     }
 
