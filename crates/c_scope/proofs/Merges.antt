@@ -187,8 +187,8 @@ pub reached_is_one : {names : Names} → IsReached names → IsOne names.linked
 reached_is_one begins = record { block = []; alone = refl; things = tt }
 reached_is_one (enters r) = reached_is_one r
 reached_is_one (leaves r) = reached_is_one r
-reached_is_one (declares {names} Ordinary name what d r h) = with_one names.linked (declared_in name (innermost names.ordinary)) name what d (reached_is_one r) h
-reached_is_one (declares {names} TagSpace name what d r h) = with_one names.linked (declared_in name (innermost names.tags)) name what d (reached_is_one r) h
+reached_is_one (declares {names} Ordinary name what d r own h) = with_one names.linked (declared_in name (innermost names.ordinary)) name what d (reached_is_one r) h
+reached_is_one (declares {names} TagSpace name what d r own h) = with_one names.linked (declared_in name (innermost names.tags)) name what d (reached_is_one r) h
 
 pub linked_are_one : (names : Names) → IsReached names → AreOneThing (innermost names.linked)
 linked_are_one names r =

@@ -6,6 +6,8 @@
 -- linkage in all scopes, with one body or initialiser at most.
 use Rattle.std.specs.Prelude.{Bool, true, false, not, ◌&&◌, ◌||◌, ◌==◌, if◌then◌else◌, Option, Some, None}
 use Rattle.c_types.specs.declared.ctype.Part.{Part}
+use Rattle.c_tree.specs.declared.declared.Definition.{Definition}
+use Rattle.c_tree.specs.declared.declared.Definition.TheVariants as definition
 use Rattle.c_tree.specs.declared.declared.Linkage.{Linkage}
 use Rattle.c_tree.specs.declared.declared.Linkage.TheVariants.{NoLinkage, Internal, External, Prior}
 use Rattle.c_tree.specs.declared.declared.Declared.{Declared}
@@ -54,15 +56,28 @@ with_linkage own (Object o) = Object (record o { linkage = own })
 with_linkage own (Function f) = Function (record f { linkage = own })
 with_linkage own d = d
 
+-- whether a declaration defines an object by itself
+abbrev pub is_full : Definition → Bool
+is_full definition.None = false
+is_full definition.Tentative = false
+is_full definition.Full = true
+
+-- how far two declarations define an object
+abbrev pub further : Definition → Definition → Definition
+further definition.None b = b
+further definition.Tentative definition.None = definition.Tentative
+further definition.Tentative b = b
+further definition.Full b = definition.Full
+
 -- one thing, of one type and one linkage, that isn't defined twice
 abbrev pub is_one_thing : Declared → Declared → Bool
-is_one_thing (Object a) (Object b) = same_part a.ty b.ty && same_linkage a.linkage b.linkage && not (a.is_defined && b.is_defined)
+is_one_thing (Object a) (Object b) = same_part a.ty b.ty && same_linkage a.linkage b.linkage && not (is_full a.definition && is_full b.definition)
 is_one_thing (Function a) (Function b) = a.ty == b.ty && same_linkage a.linkage b.linkage && not (a.is_defined && b.is_defined)
 is_one_thing _ _ = false
 
--- what stood before, which is defined now where it was or the later declaration defines it
+-- what stood before, which is defined now as far as one of the declarations defines it
 abbrev pub merge : Declared → Declared → Declared
-merge (Object a) (Object b) = Object (record a { is_defined = a.is_defined || b.is_defined })
+merge (Object a) (Object b) = Object (record a { definition = further a.definition b.definition })
 merge (Function a) (Function b) = Function (record a { is_defined = a.is_defined || b.is_defined })
 merge a b = a
 

@@ -5,14 +5,14 @@ use Rattle.c_tree.specs.declared.declared.Declared.{Declared}
 use Rattle.c_tree.specs.declared.declared.Declared.TheVariants.{Object, Function}
 use Rattle.c_scope.specs.declared.space.Space.{Space}
 use Rattle.c_scope.specs.Blocks.{Naming, innermost}
-use Rattle.c_scope.specs.Scopes.{Names, no_names, with_block, without_block, with_name, declaration_in}
+use Rattle.c_scope.specs.Scopes.{Names, no_names, with_block, without_block, with_name, space_of, declaration_in}
 
 -- the names that calls on scopes lead to, from a file's begin on
 pub data IsReached : Names → Type 0 where
   begins : IsReached no_names
   enters : {names : Names} → IsReached names → IsReached (with_block names)
   leaves : {names : Names} → IsReached names → IsReached (without_block names)
-  declares : {names : Names} (space : Space) (name : List ℕ) (what d : Declared) → IsReached names → declaration_in names space name what ≡ Some d → IsReached (with_name space (record { name = name; what = d }) names)
+  declares : {names : Names} (space : Space) (name : List ℕ) (what d : Declared) → IsReached names → space ≡ space_of what → declaration_in names space name what ≡ Some d → IsReached (with_name space (record { name = name; what = d }) names)
 
 -- two objects or two functions of one type and one linkage
 abbrev pub IsSameThing : Declared → Declared → Type 0

@@ -6,6 +6,7 @@ use Rattle.c_scope.specs.Blocks.{Naming, with_declaration, outer_blocks, visible
 use Rattle.c_scope.specs.Again.{has_linkage, declared_as}
 use Rattle.std.specs.Prelude.{Option}
 use Rattle.c_tree.specs.declared.declared.Declared.{Declared}
+use Rattle.c_tree.specs.declared.declared.Declared.TheVariants.{Object, Function, Typedef, Constant, Tag as TagOf}
 
 -- the blocks of each name space, the innermost first, and in `linked` each declaration with linkage, also
 -- of blocks that were left
@@ -30,6 +31,14 @@ without_block names = record names { ordinary = outer_blocks names.ordinary; tag
 
 abbrev pub with_linked : Naming → List (List Naming) → List (List Naming)
 with_linked d linked = if has_linkage d.what then with_declaration d linked else linked
+
+-- the name space of what a name stands for: tags have one of their own
+abbrev pub space_of : Declared → Space
+space_of (Object o) = Ordinary
+space_of (Function f) = Ordinary
+space_of (Typedef ty) = Ordinary
+space_of (Constant value) = Ordinary
+space_of (TagOf tag) = Tag
 
 abbrev pub with_name : Space → Naming → Names → Names
 with_name Ordinary d names = record names { ordinary = with_declaration d names.ordinary; linked = with_linked d names.linked }

@@ -1,9 +1,9 @@
 //! Which declarations of one name may stand together.
 
 ghost use Rattle.std.specs.Prelude.{◌≡◌, ◌&&◌, not};
-ghost use Rattle.c_scope.specs.Again.{same_linkage, linkage_of, has_linkage, is_linked, settled_linkage, with_linkage, is_one_thing, merge, behind, beside, may_be_linked, declared_as, same_part};
+ghost use Rattle.c_scope.specs.Again.{same_linkage, linkage_of, has_linkage, is_linked, settled_linkage, with_linkage, is_full, further, is_one_thing, merge, behind, beside, may_be_linked, declared_as, same_part};
 
-use c_tree::{Declared, DeclaredFunction, DeclaredObject, DeclaredTag, Linkage};
+use c_tree::{Declared, DeclaredFunction, DeclaredObject, DeclaredTag, Definition, Linkage};
 use c_types::Part;
 
 fn is_same_part(a: Part, b: Part) -> bool
@@ -68,6 +68,28 @@ fn with_its_linkage(linkage: Linkage, declared: Declared) -> Declared
     }
 }
 
+/// Whether a declaration defines an object by itself.
+fn is_full(definition: Definition) -> bool
+    ensures { result ≡ is_full definition }
+{
+    match definition {
+        Definition::None | Definition::Tentative => false,
+        Definition::Full => true,
+    }
+}
+
+/// How far two declarations define an object.
+fn further(a: Definition, b: Definition) -> Definition
+    ensures { result ≡ further a b }
+{
+    match (a, b) {
+        (Definition::None, _) => b,
+        (Definition::Tentative, Definition::None) => a,
+        (Definition::Tentative, _) => b,
+        (Definition::Full, _) => a,
+    }
+}
+
 /// Whether declarations of one type may be of one thing, by their linkages and whether each defines it.
 fn may_merge(before: Linkage, is_defined: bool, linkage: Linkage, defines: bool) -> bool
     ensures { result ≡ (same_linkage before linkage && not (is_defined && defines)) }
@@ -82,9 +104,14 @@ fn join(before: Declared, what: Declared) -> Option<Declared>
     match (before, what) {
         (Declared::Object(a), Declared::Object(b))
             if is_same_part(a.ty, b.ty)
-                && may_merge(a.linkage, a.is_defined, b.linkage, b.is_defined) => {
+                && may_merge(
+                    a.linkage,
+                    is_full(a.definition),
+                    b.linkage,
+                    is_full(b.definition),
+                ) => {
             Some(Declared::Object(DeclaredObject {
-                is_defined: a.is_defined || b.is_defined,
+                definition: further(a.definition, b.definition),
                 ..a
             }))
         }

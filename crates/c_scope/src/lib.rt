@@ -10,7 +10,7 @@ pub mod laws;
 mod scopes;
 mod space;
 
-pub use scopes::Scopes;
+pub use scopes::{Scopes, space_of};
 pub use space::{DeclareFault, Space, Unknown};
 
 #[cfg(test)]

@@ -2,7 +2,7 @@
 
 ghost use Rattle.std.specs.Prelude.{◌≡◌, ◌<◌, length, OnOk, IfErr};
 ghost use Rattle.c_scope.specs.Blocks.{with_declaration};
-ghost use Rattle.c_scope.specs.Scopes.{with_linked};
+ghost use Rattle.c_scope.specs.Scopes.{with_linked, space_of};
 
 use crate::again::{declaration, has_its_linkage};
 use crate::blocks::Blocks;
@@ -35,7 +35,7 @@ impl Scopes {
     ghost use Rattle.std.specs.Prelude.{◌≡◌, ◌<◌, length, Some, None, Ok, Err, IfOk, OnOk, OnErr, IsSomeAnd};
     ghost use Rattle.std.specs.Option.{option_copied};
     ghost use Rattle.c_scope.specs.Blocks.{visible, declared_in, innermost};
-    ghost use Rattle.c_scope.specs.Scopes.{no_names, with_block, without_block, blocks_in, declaration_in, with_name};
+    ghost use Rattle.c_scope.specs.Scopes.{no_names, with_block, without_block, blocks_in, declaration_in, with_name, space_of};
 
     /// The file's scope, without names.
     pub fn new(alloc: Global) -> Result<Scopes, AllocError>
@@ -96,8 +96,9 @@ impl Scopes {
         }
     }
 
-    /// Declares a name in the innermost block. A refusal changes nothing.
+    /// Declares a name in the innermost block, in the name space of what it stands for. A refusal changes nothing.
     pub fn declare(&mut self, space: Space, name: &[u8], what: Declared) -> Result<(), DeclareFault>
+        requires { space ≡ space_of what }
         ensures ok { OnOk result (IsSomeAnd (declaration_in self.old space name.now what)
             (λ d. self.new ≡ with_name space (record { name = name.now; what = d }) self.old)) }
         ensures again { result ≡ Err DeclareFault.Again
@@ -113,6 +114,19 @@ impl Scopes {
             Space::Ordinary => declare_linked(&mut self.ordinary, &mut self.linked, name, declared),
             Space::Tag => declare_linked(&mut self.tags, &mut self.linked, name, declared),
         }
+    }
+}
+
+/// The name space of what a name stands for (C11 6.2.3): tags have one of their own.
+pub fn space_of(declared: Declared) -> Space
+    ensures { result ≡ space_of declared }
+{
+    match declared {
+        Declared::Object(_)
+        | Declared::Function(_)
+        | Declared::Typedef(_)
+        | Declared::Constant(_) => Space::Ordinary,
+        Declared::Tag(_) => Space::Tag,
     }
 }
 

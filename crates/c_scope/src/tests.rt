@@ -1,7 +1,9 @@
 //! Scopes as files open them, and pairs of declarations of one name.
 
 use super::*;
-use c_tree::{Declared, DeclaredFunction, DeclaredObject, DeclaredTag, Linkage, ObjectNumber};
+use c_tree::{
+    Declared, DeclaredFunction, DeclaredObject, DeclaredTag, Definition, Linkage, ObjectNumber,
+};
 use c_types::{Part, Qualifiers, Tag};
 use std::test::Fail;
 
@@ -14,14 +16,14 @@ fn part(number: u32) -> Part {
 }
 
 /// An object of this type, as `int x;`, `extern int x;` or `static int x;` have it.
-fn object(ty: u32, linkage: Linkage, is_defined: bool) -> Declared {
+fn object(ty: u32, linkage: Linkage, definition: Definition) -> Declared {
     Declared::Object(DeclaredObject {
         line: 1,
         ty: part(ty),
         number: ObjectNumber::Static(0),
         linkage,
         is_register: false,
-        is_defined,
+        definition,
     })
 }
 
@@ -43,25 +45,24 @@ fn tag(is_listed: bool) -> Declared {
     })
 }
 
+/// Declares a name in the name space of what it stands for.
+fn declare(scopes: &mut Scopes, name: &[u8], what: Declared) -> Result<(), DeclareFault> {
+    scopes.declare(space_of(what), name, what)
+}
+
 #[test]
 fn an_inner_name_hides_an_outer_one_until_its_block_ends(rt: HostRuntime) -> Result<(), Fail> {
     let mut scopes = Scopes::new(rt.alloc())?;
     assert_eq!(rt; scopes.look_up(Space::Ordinary, b"x"), Err(Unknown));
-    assert_eq!(rt;
-        scopes.declare(Space::Ordinary, b"x", Declared::Constant(1)),
-        Ok(())
-    );
+    assert_eq!(rt; declare(&mut scopes, b"x", Declared::Constant(1)), Ok(()));
     scopes.enter()?;
     assert_eq!(rt;
         scopes.look_up(Space::Ordinary, b"x").copied(),
         Ok(Declared::Constant(1))
     );
     assert_eq!(rt; scopes.look_up_here(Space::Ordinary, b"x").copied(), None);
-    assert_eq!(rt;
-        scopes.declare(Space::Ordinary, b"x", Declared::Constant(2)),
-        Ok(())
-    );
-    assert_eq!(rt; scopes.declare(Space::Tag, b"x", tag(false)), Ok(()));
+    assert_eq!(rt; declare(&mut scopes, b"x", Declared::Constant(2)), Ok(()));
+    assert_eq!(rt; declare(&mut scopes, b"x", tag(false)), Ok(()));
     assert_eq!(rt;
         scopes.look_up(Space::Ordinary, b"x").copied(),
         Ok(Declared::Constant(2))
@@ -73,8 +74,8 @@ fn an_inner_name_hides_an_outer_one_until_its_block_ends(rt: HostRuntime) -> Res
 /// What the second of two declarations of one name in one block gets.
 fn second(rt: &HostRuntime, first: Declared, then: Declared) -> Result<(), DeclareFault> {
     let mut scopes = Scopes::new(rt.alloc()).map_err(|_| DeclareFault::NoMemory)?;
-    scopes.declare(Space::Ordinary, b"n", first)?;
-    scopes.declare(Space::Ordinary, b"n", then)
+    declare(&mut scopes, b"n", first)?;
+    declare(&mut scopes, b"n", then)
 }
 
 #[test]
@@ -83,8 +84,8 @@ fn declarations_that_stand_together_in_one_block(rt: HostRuntime) {
     let rows = [
         (
             "int n; in a block, twice",
-            object(0, Linkage::NoLinkage, false),
-            object(0, Linkage::NoLinkage, false),
+            object(0, Linkage::NoLinkage, Definition::Tentative),
+            object(0, Linkage::NoLinkage, Definition::Tentative),
             again,
         ),
         (
@@ -101,32 +102,32 @@ fn declarations_that_stand_together_in_one_block(rt: HostRuntime) {
         ),
         (
             "int n; extern int n;",
-            object(0, Linkage::External, false),
-            object(0, Linkage::Prior, false),
+            object(0, Linkage::External, Definition::Tentative),
+            object(0, Linkage::Prior, Definition::None),
             Ok(()),
         ),
         (
             "static int n; extern int n;",
-            object(0, Linkage::Internal, false),
-            object(0, Linkage::Prior, false),
+            object(0, Linkage::Internal, Definition::Tentative),
+            object(0, Linkage::Prior, Definition::None),
             Ok(()),
         ),
         (
             "static int n; int n;",
-            object(0, Linkage::Internal, false),
-            object(0, Linkage::External, false),
+            object(0, Linkage::Internal, Definition::Tentative),
+            object(0, Linkage::External, Definition::Tentative),
             again,
         ),
         (
             "int n; long n;",
-            object(0, Linkage::External, false),
-            object(1, Linkage::External, false),
+            object(0, Linkage::External, Definition::Tentative),
+            object(1, Linkage::External, Definition::Tentative),
             again,
         ),
         (
             "int n = 1; int n = 2;",
-            object(0, Linkage::External, true),
-            object(0, Linkage::External, true),
+            object(0, Linkage::External, Definition::Full),
+            object(0, Linkage::External, Definition::Full),
             again,
         ),
         (
@@ -143,7 +144,7 @@ fn declarations_that_stand_together_in_one_block(rt: HostRuntime) {
         ),
         (
             "int n; int n(void);",
-            object(0, Linkage::External, false),
+            object(0, Linkage::External, Definition::Tentative),
             function(2, Linkage::Prior, false),
             again,
         ),
@@ -165,16 +166,24 @@ fn one_thing_has_one_type_in_all_blocks(rt: HostRuntime) -> Result<(), Fail> {
     let mut scopes = Scopes::new(rt.alloc())?;
     scopes.enter()?;
     assert_eq!(rt;
-        scopes.declare(Space::Ordinary, b"n", object(0, Linkage::Prior, false)),
+        declare(
+            &mut scopes,
+            b"n",
+            object(0, Linkage::Prior, Definition::None)
+        ),
         Ok(())
     );
     scopes.enter()?;
     assert_eq!(rt;
-        scopes.declare(Space::Ordinary, b"n", object(1, Linkage::Prior, false)),
+        declare(
+            &mut scopes,
+            b"n",
+            object(1, Linkage::Prior, Definition::None)
+        ),
         Err(DeclareFault::Again)
     );
     assert_eq!(rt;
-        scopes.declare(Space::Ordinary, b"n", Declared::Typedef(part(1))),
+        declare(&mut scopes, b"n", Declared::Typedef(part(1))),
         Ok(())
     );
     Ok(())
@@ -183,7 +192,7 @@ fn one_thing_has_one_type_in_all_blocks(rt: HostRuntime) -> Result<(), Fail> {
 #[test]
 fn a_block_that_is_left_is_gone(rt: HostRuntime) -> Result<(), Fail> {
     let mut scopes = Scopes::new(rt.alloc())?;
-    assert_eq!(rt; scopes.declare(Space::Tag, b"s", tag(true)), Ok(()));
+    assert_eq!(rt; declare(&mut scopes, b"s", tag(true)), Ok(()));
     scopes.enter()?;
     scopes.leave();
     assert_eq!(rt;

@@ -21,7 +21,19 @@ pub enum ObjectNumber {
     Local(u32),
 }
 
-/// An object: the line of its first declarator, its type, and whether it has an initialiser.
+/// How far declarations define an object (C11 6.9.2).
+#[derive(Clone, Copy, Debug, PartialEq, Eq)]
+pub enum Definition {
+    /// Not at all: each is `extern`, without an initialiser.
+    None,
+    /// One outside of functions has neither `extern` nor an initialiser: where nothing defines the object, it
+    /// is zero.
+    Tentative,
+    /// One has an initialiser, or stands in a function without `extern`.
+    Full,
+}
+
+/// An object: the line of its first declarator, its type, and how far it is defined.
 #[derive(Clone, Copy, Debug, PartialEq, Eq)]
 pub struct DeclaredObject {
     pub line: u32,
@@ -29,7 +41,7 @@ pub struct DeclaredObject {
     pub number: ObjectNumber,
     pub linkage: Linkage,
     pub is_register: bool,
-    pub is_defined: bool,
+    pub definition: Definition,
 }
 
 /// A function: the line of its first declarator, the number of its type, and whether it has a body.

@@ -15,7 +15,7 @@ mod program;
 mod stmt;
 
 pub use declared::{
-    Declared, DeclaredFunction, DeclaredObject, DeclaredTag, Linkage, ObjectNumber,
+    Declared, DeclaredFunction, DeclaredObject, DeclaredTag, Definition, Linkage, ObjectNumber,
 };
 pub use expr::{Expr, Link};
 pub use operation::{Access, Change, Operation, Piece, Unit};

@@ -1,6 +1,7 @@
 -- One derivation after the other: the faults, and the types that are made.
-use Rattle.std.proofs.Common.{◌≡◌, ◌⊎◌, ℕ, suc, ◌+◌, ◌<◌, List, [], ◌∷◌, ◌++◌, length, get_or, drop, Option, Some, None, refl, sym, ap, ◌∙◌, subst, ⊎_elim, Bool, Result, Ok, IsSomeAnd, add-one}
+use Rattle.std.proofs.Common.{◌≡◌, ◌⊎◌, ℕ, suc, ◌+◌, ◌<◌, All, List, [], ◌∷◌, ◌++◌, length, get_or, drop, Option, Some, None, refl, sym, ap, ◌∙◌, subst, ⊎_elim, Bool, Result, Ok, IsSomeAnd, add-one}
 use Rattle.std.proofs.Math.Seq.{drop-cons}
+use Rattle.std.proofs.lemmas.List.Elements.{All-weaker, All-tail}
 use Rattle.c_types.specs.declared.derivation.Derivation.{Derivation}
 use Rattle.c_types.specs.declared.rule.TypeRule.{TypeRule}
 use Rattle.c_types.specs.declared.rule.DeriveFault.{DeriveFault}
@@ -22,7 +23,9 @@ use Rattle.c_types.specs.Derivations.{Shape, shape_of, shape_after, rule_of, low
 use Rattle.c_types.specs.Declarators.{IsTypeEntry, type_of_entry, shape_of_any, shape_at, Keeps, Makes, IsDerived, IsParameterList}
 use Rattle.c_types.specs.LayoutLaws.{room_size, room_align}
 use Rattle.c_types.proofs.Orders.{array_by_parts}
+use Rattle.c_types.specs.Whole.{IsListEntry, IsListAt, IsPartOf, IsPart, DerivationFits}
 use Rattle.c_types.proofs.Numberings.{slice_get-push_before}
+use Rattle.c_types.proofs.Whole.{Stays, Keeps-stays, part_is_type}
 
 -- what is left at an index is the element there and what is left behind it
 pub left_at : {A : Type 0} (xs : List A) (i : ℕ) (x : A) → i < length xs → x ≡ get_or xs i x → drop i xs ≡ x ∷ drop (i + 1) xs
@@ -91,6 +94,37 @@ Makes-type t of OpenArray made h = absurd h
 Makes-type t of BadArray made h = absurd h
 Makes-type t of (BadFunction broken) made h = absurd h
 
+-- ..and a part in its one form
+of_pointer : (o : Option Entry) (to : Part) (set : ℕ) → o ≡ Some (OfType (Pointer to)) → IsPartOf o set
+of_pointer o to set h = subst (λ (x : Option Entry). IsPartOf x set) (sym h) tt
+
+pub Makes-part : (t : List Entry) (of : Part) (d : Derivation) (made : Part) → Makes t of d made → IsPart t made
+Makes-part t of (PointerTo q) made h = of_pointer (slice_get t made.number) of made.qualifiers.0 h.0
+Makes-part t of (FunctionOf ps more) made h = subst (λ (x : Option Entry). IsPartOf x made.qualifiers.0) (sym h.0) h.1
+Makes-part t of (ArrayOfSo count) made h = subst (λ (x : Option Entry). IsPartOf x made.qualifiers.0) (sym h.1.0) h.1.1
+Makes-part t of OpenArray made h = absurd h
+Makes-part t of BadArray made h = absurd h
+Makes-part t of (BadFunction broken) made h = absurd h
+
+-- ---- the lists that derivations name
+
+pub DerivationFits-keeps : (t t' : List Entry) → Stays t t' → (d : Derivation) → DerivationFits t d → DerivationFits t' d
+DerivationFits-keeps t t' s (PointerTo q) h = tt
+DerivationFits-keeps t t' s (ArrayOfSo count) h = tt
+DerivationFits-keeps t t' s OpenArray h = tt
+DerivationFits-keeps t t' s BadArray h = tt
+DerivationFits-keeps t t' s (FunctionOf ps more) h = s.lists ps h
+DerivationFits-keeps t t' s (BadFunction broken) h = tt
+
+pub All-keeps : (t t' : List Entry) (ds : List Derivation) → Stays t t' → All (DerivationFits t) ds → All (DerivationFits t') ds
+All-keeps t t' ds s h = All-weaker (DerivationFits t) (DerivationFits t') (DerivationFits-keeps t t' s) ds h
+
+-- the number of a list of parameters is one
+pub list_at : (t : List Entry) (types : List ℕ) (n : ℕ) → IsParameterList t types n → IsListAt t n
+unfolding IsParameterList
+list_at t [] n h = subst (λ (o : Option Entry). IsSomeAnd o IsListEntry) (sym h) tt
+list_at t (ty ∷ types) n h = subst (λ (o : Option Entry). IsSomeAnd o IsListEntry) (sym h.1) tt
+
 pub Makes-shape : (t : List Entry) (of : Part) (d : Derivation) (made : Part) → Makes t of d made → shape_at t made.number ≡ shape_after (shape_at t of.number) d
 Makes-shape t of (PointerTo q) made h = rw h.0 refl
 Makes-shape t of (FunctionOf ps more) made h = rw h.0 refl
@@ -132,22 +166,24 @@ no_cause s d ds NoMemory o h e = tt
 -- while a declarator's type is made: what is made so far, with what is left, is the whole
 pub record IsDeriving (first now : List Entry) (base part : Part) (ds left : List Derivation) : Type 0 where
   pub kept : Keeps first now
-  pub there : IsSomeAnd (slice_get now part.number) IsTypeEntry
+  pub there : IsPart now part
+  pub lists : All (DerivationFits now) left
   pub fine : lowest_rule (shape_at now part.number) None left ≡ None
   pub so_far : (table : List Entry) (made : Part) → Keeps now table → IsDerived table part left made → IsDerived table base ds made
 
-pub derive-starts : (first : List Entry) (base : Part) (ds : List Derivation) → IsSomeAnd (slice_get first base.number) IsTypeEntry → lowest_rule (shape_at first base.number) None ds ≡ None → IsDeriving first first base base ds ds
-derive-starts first base ds there fine = record { kept = λ n e at. at; there = there; fine = fine; so_far = λ table made k h. h }
+pub derive-starts : (first : List Entry) (base : Part) (ds : List Derivation) → IsPart first base → All (DerivationFits first) ds → lowest_rule (shape_at first base.number) None ds ≡ None → IsDeriving first first base base ds ds
+derive-starts first base ds there lists fine = record { kept = λ n e at. at; there = there; lists = lists; fine = fine; so_far = λ table made k h. h }
 
 module _ (first now new : List Entry) (base part next : Part) (ds rest : List Derivation) (d : Derivation) (ok : IsDeriving first now base part ds (d ∷ rest)) where
   pub derive-step : Keeps now new → rule_of (shape_at now part.number) d ≡ None → Makes new part d next → IsDeriving first new base next ds rest
   unfolding IsDerived
   derive-step k f makes =
       let shape : shape_at new next.number ≡ shape_after (shape_at now part.number) d =
-      Makes-shape new part d next makes ∙ ap (λ s. shape_after s d) (shape_at-keeps now new part.number k ok.there) in
+      Makes-shape new part d next makes ∙ ap (λ s. shape_after s d) (shape_at-keeps now new part.number k (part_is_type now part ok.there)) in
       record {
         kept = Keeps-trans first now new ok.kept k;
-        there = Makes-type new part d next makes;
+        there = Makes-part new part d next makes;
+        lists = All-keeps now new rest (Keeps-stays now new k) (All-tail (DerivationFits now) d rest ok.lists);
         fine = ap (λ s. lowest_rule s None rest) shape ∙ fine_next (shape_at now part.number) d rest ok.fine f;
         so_far = λ table made l h. ok.so_far table made (Keeps-trans now new table k l) (next, Makes-keeps new table part d next l makes, h);
       }

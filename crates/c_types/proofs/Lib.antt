@@ -4,3 +4,5 @@ pub mod LayoutsHold
 pub mod Orders
 pub mod Numberings
 pub mod Deriving
+pub mod Whole
+pub mod Completing

@@ -28,7 +28,7 @@ slice_get-push_at [] y = refl
 slice_get-push_at (x ∷ xs) y = slice_get-push_at xs y
 
 -- an index of the longer list is one of the shorter, or the new one
-push_cases : {A : Type 0} (xs : List A) (y e : A) (n : ℕ) → slice_get (xs ++ y ∷ []) n ≡ Some e → ((n < length xs) × (slice_get xs n ≡ Some e)) ⊎ ((n ≡ length xs) × (y ≡ e))
+pub push_cases : {A : Type 0} (xs : List A) (y e : A) (n : ℕ) → slice_get (xs ++ y ∷ []) n ≡ Some e → ((n < length xs) × (slice_get xs n ≡ Some e)) ⊎ ((n ≡ length xs) × (y ≡ e))
 push_cases [] y e zero h = inr (refl, cc)
 push_cases [] y e (suc n) h = cc
 push_cases (x ∷ xs) y e zero h = inl (omega arith, h)
@@ -135,7 +135,7 @@ module _ (entries : List Entry) (numbers : BTreeMap Entry ℕ) (entry : Entry) (
   }
 
 -- an index of a list with one entry set is another, or that one
-set_cases : {A : Type 0} (xs : List A) (i : ℕ) (y e : A) (n : ℕ) → slice_get (slice_set xs i y) n ≡ Some e → ((n ≢ i) × (slice_get xs n ≡ Some e)) ⊎ ((n ≡ i) × (y ≡ e))
+pub set_cases : {A : Type 0} (xs : List A) (i : ℕ) (y e : A) (n : ℕ) → slice_get (slice_set xs i y) n ≡ Some e → ((n ≢ i) × (slice_get xs n ≡ Some e)) ⊎ ((n ≡ i) × (y ≡ e))
 set_cases [] i y e n h = cc
 set_cases (x ∷ xs) zero y e zero h = inr (refl, cc)
 set_cases (x ∷ xs) zero y e (suc n) h = inl (λ (p : suc n ≡ zero). cc, h)

@@ -8,3 +8,4 @@ pub mod Qualifiers
 pub mod Tables
 pub mod Derivations
 pub mod Declarators
+pub mod Whole

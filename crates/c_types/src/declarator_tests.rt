@@ -1,8 +1,5 @@
 //! Types of declarators worked out by hand, and declarators as long as a file allows.
 
-ghost use Rattle.std.specs.Prelude.{◌↔◌, IsTrue, IsSomeAnd, slice_get};
-ghost use Rattle.c_types.specs.Declarators.{IsTypeEntry};
-
 use super::*;
 use bitflags::Flags;
 use filc_num::CIntType;
@@ -41,17 +38,19 @@ fn outcome(
     derivations: &[Derivation],
 ) -> Result<Option<Entry>, DeriveFault> {
     let mut types = Types::new(rt.alloc());
+    let none = types.parameter_list(&[]);
     let number = match base {
         CType::Structure(..) | CType::Union(..) | CType::Enumeration(_) => {
             types.declare(Tag::Structure)
         }
-        _ => types.number_of(Entry::OfType(base)),
+        CType::Integer(kind) => types.integer_type(kind),
+        _ => types.void_type(),
     };
-    let Ok(number) = number else {
+    let (Ok(0), Ok(number)) = (none, number) else {
         return Err(DeriveFault::NoMemory);
     };
     let base = plain(number);
-    if !is_type(&types, base) {
+    if !types.is_part(base) || !types.knows_lists_of(derivations) {
         return Err(DeriveFault::NoMemory);
     }
     let part = types.derive_all(base, derivations)?;
@@ -165,7 +164,23 @@ fn faults_of_declarators(rt: HostRuntime) {
 
 /// A type that is put in, by its number.
 fn base(types: &mut Types, kind: CIntType) -> Result<Part, Fail> {
-    Ok(plain(types.number_of(Entry::OfType(CType::Integer(kind)))?))
+    Ok(plain(types.integer_type(kind)?))
+}
+
+/// The number of a list of parameters, by the numbers of their types.
+fn list(types: &mut Types, numbers: &[u32]) -> Result<u32, Fail> {
+    if !types.are_types(numbers) {
+        return Err("a parameter is no type".into());
+    }
+    Ok(types.parameter_list(numbers)?)
+}
+
+/// What derivations make of a part.
+fn made(types: &mut Types, base: Part, derivations: &[Derivation]) -> Result<Part, Fail> {
+    if !types.is_part(base) || !types.knows_lists_of(derivations) {
+        return Err("the base or a list isn't there".into());
+    }
+    Ok(types.derive_all(base, derivations)?)
 }
 
 /// `int (*(*fp)(int (*)(int), int))(char)`: a pointer to a function of a pointer to a function of int, and of
@@ -175,17 +190,12 @@ fn a_pointer_to_a_function_that_gives_one(rt: HostRuntime) -> Result<(), Fail> {
     let mut types = Types::new(rt.alloc());
     let int = base(&mut types, CIntType::Int)?;
     let character = base(&mut types, CIntType::Char)?;
-    let of_int = types.parameter_list(&[int.number])?;
-    if !is_type(&types, int) {
-        return Err("int".into());
-    }
-    let callback = types.derive_all(int, &[function(of_int), pointer()])?;
-    let both = types.parameter_list(&[callback.number, int.number])?;
-    let of_char = types.parameter_list(&[character.number])?;
-    if !is_type(&types, int) {
-        return Err("int".into());
-    }
-    let fp = types.derive_all(
+    let of_int = list(&mut types, &[int.number])?;
+    let callback = made(&mut types, int, &[function(of_int), pointer()])?;
+    let both = list(&mut types, &[callback.number, int.number])?;
+    let of_char = list(&mut types, &[character.number])?;
+    let fp = made(
+        &mut types,
         int,
         &[function(of_char), pointer(), function(both), pointer()],
     )?;
@@ -200,16 +210,6 @@ fn a_pointer_to_a_function_that_gives_one(rt: HostRuntime) -> Result<(), Fail> {
     assert_eq!(rt; parameters_of(&types, inner), Some(of_char));
     assert_eq!(rt; result_of(&types, inner), Some(int));
     Ok(())
-}
-
-/// Whether a part is there, as `derive_all` wants it.
-fn is_type(types: &Types, part: Part) -> bool
-    ensures { IsTrue result ↔ IsSomeAnd (slice_get types.now part.number) IsTypeEntry }
-{
-    match types.get(part.number) {
-        Some(Entry::OfType(_)) => true,
-        Some(Entry::NoParameters | Entry::Parameters(..)) | None => false,
-    }
 }
 
 fn pointed(types: &Types, part: Part) -> Option<Part> {
@@ -238,23 +238,17 @@ fn parameters_of(types: &Types, part: Part) -> Option<u32> {
 fn arrays_of_arrays(rt: HostRuntime) -> Result<(), Fail> {
     let mut types = Types::new(rt.alloc());
     let int = base(&mut types, CIntType::Int)?;
-    let none = types.parameter_list(&[])?;
-    if !is_type(&types, int) {
-        return Err("int".into());
-    }
-    let table = types.derive_all(int, &[array(3), array(2)])?;
+    let none = list(&mut types, &[])?;
+    let table = made(&mut types, int, &[array(3), array(2)])?;
     let Some(Entry::OfType(CType::ArrayOf(rows))) = types.get(table.number) else {
         return Err("no array".into());
     };
     assert_eq!(rt; (rows.count, rows.extent.size), (2, 12));
     assert_eq!(rt; size_of(&CType::ArrayOf(rows)), Ok(24));
-    if !is_type(&types, table) {
-        return Err("table".into());
-    }
-    let given = types.derive_all(table, &[pointer(), function(none)])?;
+    let given = made(&mut types, table, &[pointer(), function(none)])?;
     let result = result_of(&types, given).ok_or("no function")?;
     assert_eq!(rt; pointed(&types, result), Some(table));
-    if !is_type(&types, table) {
+    if !types.is_part(table) {
         return Err("table".into());
     }
     let parameter = types.adjust(table)?;
@@ -270,10 +264,7 @@ fn long_declarator(rt: &HostRuntime, derivation: Derivation) -> Result<usize, Fa
     for _ in 0..100_000u32 {
         derivations.push(derivation)?;
     }
-    if !is_type(&types, int) {
-        return Err("int".into());
-    }
-    types.derive_all(int, &derivations)?;
+    made(&mut types, int, &derivations)?;
     Ok(types.len())
 }
 
@@ -291,11 +282,8 @@ fn typedefs_of_typedefs_take_an_entry_each(rt: HostRuntime) -> Result<(), Fail> 
     let int = base(&mut types, CIntType::Int)?;
     let mut last = int;
     for _ in 0..300u32 {
-        let twice = types.parameter_list(&[last.number, last.number])?;
-        if !is_type(&types, last) {
-            return Err("last".into());
-        }
-        last = types.derive_all(last, &[function(twice), pointer()])?;
+        let twice = list(&mut types, &[last.number, last.number])?;
+        last = made(&mut types, last, &[function(twice), pointer()])?;
     }
     assert_eq!(rt; types.len(), 1 + 1 + 300 * 4);
     Ok(())

@@ -16,14 +16,17 @@ use bitflags::Flags;
 use std::alloc::AllocError;
 
 impl Types {
-    ghost use Rattle.std.specs.Prelude.{◌≡◌, ◌≢◌, ℕ, Some, None, IfOk, IfErr, IsSomeAnd, OnOk, slice_get};
+    ghost use Rattle.std.specs.Prelude.{◌≡◌, ◌≢◌, ℕ, Some, None, All, IfOk, IfErr, IsSomeAnd, OnOk, slice_get};
     ghost use Rattle.c_types.specs.Derivations.{rule_of, lowest_rule, IsCause};
+    ghost use Rattle.c_types.specs.declared.entry.Entry.TheVariants.{OfType};
+    ghost use Rattle.c_types.specs.Whole.{IsTypeAt, IsListAt, IsPart, DerivationFits, EntryFits};
     ghost use Rattle.c_types.specs.Declarators.{IsTypeEntry, Keeps, Makes, IsDerived, IsParameterList, IsAdjusted, shape_at, type_of_entry};
 
     /// The type of this number.
     fn type_at(&self, number: u32) -> CType
         requires { IsSomeAnd (slice_get self.now number) IsTypeEntry }
-        ensures { Some result ≡ type_of_entry (slice_get self.now number) }
+        ensures value { Some result ≡ type_of_entry (slice_get self.now number) }
+        ensures fits { EntryFits self.now (OfType result) }
     {
         match self.get(number) {
             Some(Entry::OfType(ty)) => ty,
@@ -33,8 +36,10 @@ impl Types {
 
     /// The part that a derivation makes of a part. The table may have grown also where this is refused.
     pub fn derive(&mut self, of: Part, derivation: Derivation) -> Result<Part, DeriveFault>
-        requires { IsSomeAnd (slice_get self.old of.number) IsTypeEntry }
+        requires part { IsPart self.old of }
+        requires list { DerivationFits self.old derivation }
         ensures made { IfOk result (λ made. Makes self.new of derivation made) }
+        ensures part { IfOk result (IsPart self.new) }
         ensures fine { OnOk result (rule_of (shape_at self.old of.number) derivation ≡ None) }
         ensures fault { IfErr result (IsCause (rule_of (shape_at self.old of.number) derivation)) }
         ensures kept { Keeps self.old self.new }
@@ -79,8 +84,10 @@ impl Types {
         base: Part,
         derivations: &[Derivation],
     ) -> Result<Part, DeriveFault>
-        requires { IsSomeAnd (slice_get self.old base.number) IsTypeEntry }
+        requires part { IsPart self.old base }
+        requires lists { All (DerivationFits self.old) derivations.now }
         ensures made { IfOk result (λ made. IsDerived self.new base derivations.now made) }
+        ensures part { IfOk result (IsPart self.new) }
         ensures fine { OnOk result
             (lowest_rule (shape_at self.old base.number) None derivations.now ≡ None) }
         ensures fault { IfErr result
@@ -103,7 +110,9 @@ impl Types {
 
     /// The number of a list of parameters, by the numbers of their types.
     pub fn parameter_list(&mut self, types: &[u32]) -> Result<u32, AllocError>
+        requires { All (IsTypeAt self.old) types.now }
         ensures list { IfOk result (λ n. IsParameterList self.new types.now n) }
+        ensures number { IfOk result (IsListAt self.new) }
         ensures kept { Keeps self.old self.new }
     {
         let mut list = self.number_of(Entry::NoParameters)?;
@@ -116,8 +125,9 @@ impl Types {
     /// What a parameter of this type is: an array is a pointer to its first element, and a function a pointer to
     /// it (C11 6.7.6.3p7).
     pub fn adjust(&mut self, parameter: Part) -> Result<Part, AllocError>
-        requires { IsSomeAnd (slice_get self.old parameter.number) IsTypeEntry }
+        requires { IsPart self.old parameter }
         ensures adjusted { IfOk result (λ made. IsAdjusted self.old self.new parameter made) }
+        ensures part { IfOk result (IsPart self.new) }
         ensures kept { Keeps self.old self.new }
     {
         let to = match self.type_at(parameter.number) {

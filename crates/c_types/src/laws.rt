@@ -1,6 +1,11 @@
 //! Laws of layouts and of declarators. Each is the contract of a function that does nothing.
 
-ghost use Rattle.std.specs.Prelude.{◌≡◌, ℕ, List, IfOk};
+ghost use Rattle.std.specs.Prelude.{◌≡◌, ℕ, List, Some, None, IfOk, slice_get, slice_set};
+ghost use Rattle.c_types.specs.declared.ctype.Extent.{Extent};
+ghost use Rattle.c_types.specs.declared.entry.Entry.TheVariants.{OfType};
+ghost use Rattle.c_types.specs.declared.entry.Tag.{Tag};
+ghost use Rattle.c_types.specs.Tables.{tag_type};
+ghost use Rattle.c_types.specs.Whole.{KeepsTypes};
 ghost use Rattle.c_types.specs.declared.ctype.Part.{Part};
 ghost use Rattle.c_types.specs.declared.derivation.Derivation.{Derivation};
 ghost use Rattle.c_types.specs.Declarators.{IsDerived, IsParameterList, SamePart};
@@ -36,6 +41,16 @@ pub fn parameter_lists_have_one_number(types: &Types)
         → IsParameterList types.now list n → m ≡ n }
     ensures only { (list other : List ℕ) (n : ℕ) → IsParameterList types.now list n
         → IsParameterList types.now other n → list ≡ other }
+{
+    let _ = types.len();
+}
+
+/// A structure or union that gets its contents keeps each type, each list of parameters and each part that was made
+/// before.
+pub fn completion_keeps_types(types: &Types)
+    ensures { (tag : Tag) (n : ℕ) (contents : Extent)
+        → slice_get types.now n ≡ Some (OfType (tag_type tag n None))
+        → KeepsTypes types.now (slice_set types.now n (OfType (tag_type tag n (Some contents)))) }
 {
     let _ = types.len();
 }

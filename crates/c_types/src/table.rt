@@ -7,8 +7,11 @@
 ghost use Rattle.std.specs.Prelude.{◌≡◌};
 ghost use Rattle.c_types.specs.Tables.{tag_type};
 
-use crate::ctype::{CType, Extent};
+use crate::ctype::{CType, Extent, Part};
+use crate::derivation::Derivation;
 use crate::entry::{Entry, Tag};
+use bitflags::Flags;
+use filc_num::CIntType;
 use std::alloc::{AllocError, Global};
 use std::collections::BTreeMap;
 use std::marker::Model;
@@ -23,20 +26,23 @@ pub struct Types {
 impl Model for Types {
     ghost use Rattle.std.specs.Prelude.{List};
     ghost use Rattle.c_types.specs.declared.entry.Entry.{Entry};
-    ghost use Rattle.c_types.specs.Tables.{IsNumbered};
+    ghost use Rattle.c_types.specs.Whole.{IsTable};
 
     ghost Value = { List Entry };
 
     ghost view = { λ t. t.entries.items };
 
-    ghost invariant = { λ t. IsNumbered t.entries.items t.numbers };
+    ghost invariant = { λ t. IsTable t.entries.items t.numbers };
 }
 
 impl Types {
-    ghost use Rattle.std.specs.Prelude.{◌≡◌, ◌⊎◌, ℕ, [], ◌++◌, ◌∷◌, ◌==◌, length, slice_get, slice_set, IfOk, OnErr, IsTrue};
+    ghost use Rattle.std.specs.Prelude.{◌≡◌, ◌⊎◌, ◌↔◌, ℕ, [], ◌++◌, ◌∷◌, ◌==◌, length, slice_get, slice_set, All, IfOk, IfSome, OnErr, IsTrue};
     ghost use Rattle.c_types.specs.declared.entry.Entry.{Entry};
     ghost use Rattle.c_types.specs.declared.entry.Entry.TheVariants.{OfType};
+    ghost use Rattle.c_types.specs.declared.ctype.CType.TheVariants.{Void, Integer};
     ghost use Rattle.c_types.specs.Tables.{is_derived, tag_type};
+    ghost use Rattle.c_types.specs.Declarators.{Keeps};
+    ghost use Rattle.c_types.specs.Whole.{IsPart, IsTypeAt, IsListAt, DerivationFits, EntryFits, IsWhole};
 
     /// A table without types.
     pub fn new(alloc: Global) -> Types
@@ -48,9 +54,10 @@ impl Types {
         }
     }
 
-    /// What a number names.
+    /// What a number names. What it names itself is there, and of the right kind.
     pub fn get(&self, number: u32) -> Option<Entry>
-        ensures { result ≡ slice_get self.now number }
+        ensures value { result ≡ slice_get self.now number }
+        ensures fits { IfSome result (EntryFits self.now) }
     {
         self.entries.get(number as usize).copied()
     }
@@ -61,6 +68,7 @@ impl Types {
         ensures len { result ≡ length self.now }
         ensures once { (e : Entry) (i j : ℕ) → slice_get self.now i ≡ Some e
             → slice_get self.now j ≡ Some e → i ≡ j }
+        ensures whole { IsWhole self.now }
     {
         self.entries.len()
     }
@@ -72,12 +80,93 @@ impl Types {
         self.entries.is_empty()
     }
 
+    /// Whether a part is one of this table, in its one form.
+    pub fn is_part(&self, part: Part) -> bool
+        ensures { IsTrue result ↔ IsPart self.now part }
+    {
+        match self.get(part.number) {
+            Some(Entry::OfType(CType::ArrayOf(_) | CType::Function(_))) => {
+                part.qualifiers.bits() == 0
+            }
+            Some(Entry::OfType(_)) => true,
+            Some(Entry::NoParameters | Entry::Parameters(..)) | None => false,
+        }
+    }
+
+    /// Whether numbers are those of types.
+    pub fn are_types(&self, numbers: &[u32]) -> bool
+        ensures { IsTrue result ↔ All (IsTypeAt self.now) numbers.now }
+    {
+        numbers.iter().all(|number| self.is_type(*number))
+    }
+
+    /// Whether a number is that of a type.
+    pub fn is_type(&self, number: u32) -> bool
+        ensures { IsTrue result ↔ IsTypeAt self.now number }
+    {
+        match self.get(number) {
+            Some(Entry::OfType(_)) => true,
+            Some(Entry::NoParameters | Entry::Parameters(..)) | None => false,
+        }
+    }
+
+    /// Whether a number is that of a list of parameters.
+    pub fn is_list(&self, number: u32) -> bool
+        ensures { IsTrue result ↔ IsListAt self.now number }
+    {
+        match self.get(number) {
+            Some(Entry::NoParameters | Entry::Parameters(..)) => true,
+            Some(Entry::OfType(_)) | None => false,
+        }
+    }
+
+    /// Whether the list of parameters that a derivation names, if it does, is one of this table.
+    pub fn knows_list_of(&self, derivation: Derivation) -> bool
+        ensures { IsTrue result ↔ DerivationFits self.now derivation }
+    {
+        match derivation {
+            Derivation::Function { parameters, .. } => self.is_list(parameters),
+            Derivation::Pointer(_)
+            | Derivation::Array(_)
+            | Derivation::OpenArray
+            | Derivation::BadArray
+            | Derivation::BadFunction(_) => true,
+        }
+    }
+
+    /// Whether the lists of parameters that derivations name are this table's.
+    pub fn knows_lists_of(&self, derivations: &[Derivation]) -> bool
+        ensures { IsTrue result ↔ All (DerivationFits self.now) derivations.now }
+    {
+        derivations.iter().all(|d| self.knows_list_of(*d))
+    }
+
+    /// The number of void.
+    pub fn void_type(&mut self) -> Result<u32, AllocError>
+        ensures number { IfOk result (λ n. slice_get self.new n ≡ Some (OfType Void)) }
+        ensures kept { Keeps self.old self.new }
+        ensures err { OnErr result (self.new ≡ self.old) }
+    {
+        self.number_of(Entry::OfType(CType::Void))
+    }
+
+    /// The number of an integer type.
+    pub fn integer_type(&mut self, kind: CIntType) -> Result<u32, AllocError>
+        ensures number { IfOk result (λ n. slice_get self.new n ≡ Some (OfType (Integer kind))) }
+        ensures kept { Keeps self.old self.new }
+        ensures err { OnErr result (self.new ≡ self.old) }
+    {
+        self.number_of(Entry::OfType(CType::Integer(kind)))
+    }
+
     /// The number of a type that is made from others, or of a list of parameters: always the same one. It is
     /// put in where it isn't there yet.
-    pub fn number_of(&mut self, entry: Entry) -> Result<u32, AllocError>
-        requires { IsTrue (is_derived entry) }
+    pub(crate) fn number_of(&mut self, entry: Entry) -> Result<u32, AllocError>
+        requires derived { IsTrue (is_derived entry) }
+        requires fits { EntryFits self.old entry }
         ensures number { IfOk result (λ n. slice_get self.new n ≡ Some entry) }
         ensures table { (self.new ≡ self.old) ⊎ (self.new ≡ self.old ++ entry ∷ []) }
+        ensures kept { Keeps self.old self.new }
         ensures err { OnErr result (self.new ≡ self.old) }
     {
         if let Some(number) = self.numbers.get(&entry).copied() {

@@ -129,24 +129,23 @@ fn parts_are_compared_with_and_without_qualifiers(rt: HostRuntime) {
 fn each_type_has_one_number(rt: HostRuntime) -> Result<(), Fail> {
     let mut types = Types::new(rt.alloc());
     assert!(rt; types.is_empty());
-    let int = types.number_of(Entry::OfType(INT))?;
-    let to_int = Entry::OfType(CType::Pointer(Part {
-        number: int,
+    let int = Part {
+        number: types.integer_type(CIntType::Int)?,
         qualifiers: Qualifiers::empty(),
-    }));
-    let pointer = types.number_of(to_int)?;
-    assert!(rt; pointer != int);
-    assert_eq!(rt; types.number_of(to_int)?, pointer);
-    let none = types.number_of(Entry::NoParameters)?;
-    let one = types.number_of(Entry::Parameters(int, none))?;
-    let function = CType::Function(Signature {
-        result: int,
-        parameters: one,
-        more: false,
-    });
-    assert_eq!(rt; types.number_of(Entry::OfType(function))?, 4);
-    assert_eq!(rt; types.get(4), Some(Entry::OfType(function)));
-    assert_eq!(rt; types.get(5), None);
+    };
+    let pointer = Derivation::Pointer(Qualifiers::CONST);
+    for _ in 0..2u32 {
+        if !types.is_part(int) {
+            return Err("int".into());
+        }
+        assert_eq!(rt; types.derive(int, pointer)?.number, 1);
+    }
+    assert_eq!(rt; types.get(0), Some(Entry::OfType(INT)));
+    assert_eq!(rt; types.get(1), Some(Entry::OfType(CType::Pointer(int))));
+    assert_eq!(rt; types.get(2), None);
+    assert_eq!(rt; types.void_type()?, 2);
+    let none = types.parameter_list(&[])?;
+    assert!(rt; types.is_list(none) && !types.is_type(none));
     Ok(())
 }
 

@@ -7,7 +7,7 @@ use bitflags::Flags;
 use c_declarators::{Known, derivations_of};
 use c_parts::Span;
 use c_syntax::{Core, Declarator, Expr, ExprKind, Pointer, Suffix, SuffixKind};
-use c_types::{CType, Derivation, ElementCount, Entry, Part, Qualifiers, Types};
+use c_types::{Derivation, ElementCount, Part, Qualifiers, Types};
 use filc_num::CIntType;
 use sqlite_items::Items;
 use std::alloc::{AllocError, Global};
@@ -50,9 +50,10 @@ fn declarator(alloc: Global, pointers: u32, suffixes: u32) -> Result<Declarator,
 
 /// What derivations make of `part`, or `part` where they make nothing.
 fn made_of(types: &mut Types, part: Part, derivations: &[Derivation]) -> Part {
-    match types.get(part.number) {
-        Some(Entry::OfType(_)) => types.derive_all(part, derivations).unwrap_or(part),
-        _ => part,
+    if types.is_part(part) && types.knows_lists_of(derivations) {
+        types.derive_all(part, derivations).unwrap_or(part)
+    } else {
+        part
     }
 }
 
@@ -60,7 +61,11 @@ fn made_of(types: &mut Types, part: Part, derivations: &[Derivation]) -> Part {
 fn typedefs(alloc: Global, types: &mut Types, int: Part, count: u32) -> Result<(), AllocError> {
     let mut last = int;
     for _ in 0..count {
-        let parameters = types.parameter_list(&[last.number, last.number])?;
+        let twice = [last.number, last.number];
+        if !types.are_types(&twice) {
+            return Ok(());
+        }
+        let parameters = types.parameter_list(&twice)?;
         let function = Derivation::Function {
             parameters,
             more: false,
@@ -82,7 +87,7 @@ fn main(rt: HostRuntime) -> Result<()> {
     let count: u32 = count.as_str().parse().context("the number is none")?;
     let alloc = rt.alloc();
     let mut types = Types::new(alloc);
-    let number = types.number_of(Entry::OfType(CType::Integer(CIntType::Int)))?;
+    let number = types.integer_type(CIntType::Int)?;
     let int = Part {
         number,
         qualifiers: Qualifiers::empty(),

@@ -2,7 +2,8 @@
 use Rattle.std.proofs.Common.{Some, Ok, refl, sym, ap, ◌∙◌}
 use Rattle.c_types.specs.Derivations.{Shape, shape_of, known_room_in}
 use Rattle.c_types.specs.declared.ctype.Extent.{Extent}
-use Rattle.c_types.proofs.Deriving.{Keeps-table, made_pointer, made_array, made_function, shape_known}
+use Rattle.c_types.proofs.Deriving.{Keeps-table, Makes-part, made_pointer, made_array, made_function, shape_known}
+use Rattle.c_types.proofs.Whole.{part_is_type}
 use Rattle.c_types.proofs.table.Types.derive.Goals as goal
 use Rattle.c_types.proofs.table.Types.derive.Goals.{in-Pointer, in-Array+in-Ok, in-Function}
 
@@ -18,9 +19,12 @@ returns-in-Ok-number_of-clause-made c =
       | in-Pointer w ↦ made_pointer t c.args.of n c.match-derivation.made c.args.derivation at w.in-Pointer.qualifiers w.in-Pointer.is w.made-is
       | in-Array+in-Ok w ↦
           let extent = ap (λ (e : Extent). known_room_in (Some (Ok e))) (sym w.array_of-array.ensures.extent) in
-          let shape = shape_known c.args.self.now c.args.of.number c.type_at-ty.result (shape_of c.type_at-ty.result) c.type_at-ty.ensures refl in
+          let shape = shape_known c.args.self.now c.args.of.number c.type_at-ty.result (shape_of c.type_at-ty.result) c.type_at-ty.ensures.value refl in
           made_array t c.args.of n c.match-derivation.made c.args.derivation at c.args.self.now w.in-Array.count w.array_of-array.result w.empty.result w.in-Array.is w.made-is (w.empty.ensures tt) w.array_of-array.ensures.element w.array_of-array.ensures.count
-          (Keeps-table c.args.self.now t _ c.number_of.ensures.table) c.requires (ap (λ (s : Shape). s.room) shape ∙ ap Some (sym w.in-Ok.ensures) ∙ extent)
+          (Keeps-table c.args.self.now t _ c.number_of.ensures.table) (part_is_type c.args.self.now c.args.of c.requires.part) (ap (λ (s : Shape). s.room) shape ∙ ap Some (sym w.in-Ok.ensures) ∙ extent)
       | in-Function w ↦
           made_function t c.args.of n c.match-derivation.made c.args.derivation at w.in-Function.parameters w.in-Function.more w.empty-in-Function.result w.in-Function.is w.made-is (w.empty-in-Function.ensures tt)
     ]
+
+pub returns-in-Ok-number_of-clause-part : goal.returns-in-Ok-number_of-clause-part
+returns-in-Ok-number_of-clause-part c = Makes-part c.number_of.new.self c.args.of c.args.derivation (record { number = c.in-Ok-number_of.number; qualifiers = c.match-derivation.made.1 }) (returns-in-Ok-number_of-clause-made c)

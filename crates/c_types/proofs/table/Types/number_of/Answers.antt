@@ -6,20 +6,25 @@ use Rattle.std.specs.BTreeMap.{get, Updates, IsUnchanged}
 use Rattle.c_types.specs.declared.entry.Entry.{Entry}
 use Rattle.c_types.specs.contracts.entry.EntryOrd.TheImpl as EntryOrder
 use Rattle.c_types.specs.Tables.{IsNumbered}
+use Rattle.c_types.specs.Whole.{EntryFits, IsWhole}
+use Rattle.c_types.proofs.Whole.{IsWhole-push, IsWhole-same}
 use Rattle.c_types.proofs.Numberings.{slice_get-push_at, IsNumbered-push, IsNumbered-same, on_ok, on_err}
 use Rattle.c_types.proofs.table.Types.number_of.Goals as goal
 
 pub returns-in-Some-clause-number : goal.returns-in-Some-clause-number
 returns-in-Some-clause-number c =
     let h : get (EntryOrder.ghosts).cmp c.self.inside.numbers c.args.entry ≡ Some c.in-Some.number = sym c.get.ensures.value ∙ sym c.copied.ensures ∙ c.in-Some.is in
-    ap (λ (xs : List Entry). slice_get xs c.in-Some.number) (sym c.self.view_is) ∙ c.self.invariant.found c.args.entry c.in-Some.number h
+    ap (λ (xs : List Entry). slice_get xs c.in-Some.number) (sym c.self.view_is) ∙ c.self.invariant.numbered.found c.args.entry c.in-Some.number h
 
 pub invariant_of-self-then-is_err-2 : goal.invariant_of-self-then-is_err-2
 invariant_of-self-then-is_err-2 c =
     let pushed : c.push.new.self.items ≡ c.self.inside.entries.items ++ c.args.entry ∷ [] = grind (arith, common_steps, c.push.ensures.items) in
     let popped : c.pop.new.self.items ≡ c.self.inside.entries.items = grind (arith, common_steps, c.pop.ensures.rest, c.push.ensures.len) in
-    IsNumbered-same c.self.inside.entries.items c.pop.new.self.items c.self.inside.numbers c.insert.new.self c.self.invariant popped
-    (on_err c.insert.result (IsUnchanged c.self.inside.numbers c.insert.new.self) (sym c.is_err-2.ensures.value ∙ c.if-is_err-2.true) c.insert.ensures.err)
+    record {
+      numbered = IsNumbered-same c.self.inside.entries.items c.pop.new.self.items c.self.inside.numbers c.insert.new.self c.self.invariant.numbered popped
+          (on_err c.insert.result (IsUnchanged c.self.inside.numbers c.insert.new.self) (sym c.is_err-2.ensures.value ∙ c.if-is_err-2.true) c.insert.ensures.err);
+      whole = IsWhole-same c.self.inside.entries.items c.pop.new.self.items popped c.self.invariant.whole;
+    }
 
 pub invariant_of-self-else-is_err-2 : goal.invariant_of-self-else-is_err-2
 invariant_of-self-else-is_err-2 c =
@@ -28,8 +33,12 @@ invariant_of-self-else-is_err-2 c =
     let absent : get (EntryOrder.ghosts).cmp c.self.inside.numbers c.args.entry ≡ None = sym c.get.ensures.value ∙ sym c.copied.ensures ∙ c.in_default.is in
     let told = on_ok c.insert.result (Updates (EntryOrder.ghosts).cmp c.self.inside.numbers c.insert.new.self c.args.entry (Some c.in-Ok.number)) (sym c.is_err-2.ensures.value ∙ c.if-is_err-2.false) c.insert.ensures.updates in
     let updates = subst (λ (n : ℕ). Updates (EntryOrder.ghosts).cmp c.self.inside.numbers c.insert.new.self c.args.entry (Some n)) number told in
-    subst (λ (xs : List Entry). IsNumbered xs c.insert.new.self) (sym pushed)
-    (IsNumbered-push c.self.inside.entries.items c.self.inside.numbers c.insert.new.self c.args.entry c.self.invariant absent c.requires updates)
+    let fits : EntryFits c.self.inside.entries.items c.args.entry = subst (λ (xs : List Entry). EntryFits xs c.args.entry) (sym c.self.view_is) c.requires.fits in
+    record {
+      numbered = subst (λ (xs : List Entry). IsNumbered xs c.insert.new.self) (sym pushed)
+          (IsNumbered-push c.self.inside.entries.items c.self.inside.numbers c.insert.new.self c.args.entry c.self.invariant.numbered absent c.requires.derived updates);
+      whole = subst IsWhole (sym pushed) (IsWhole-push c.self.inside.entries.items c.args.entry c.self.invariant.whole fits);
+    }
 
 pub returns-clause-number : goal.returns-clause-number
 returns-clause-number c =

@@ -2,7 +2,8 @@
 use Rattle.std.proofs.Common.{◌≡◌, ◌+◌, ◌-◌, ◌∷◌, ℕ, List, get_or, drop, subst, sym, arith}
 use Rattle.std.proofs.Math.Seq.{drop-length}
 use Rattle.c_types.specs.Declarators.{IsParameterList}
-use Rattle.c_types.proofs.Deriving.{Keeps-table, Keeps-trans, IsParameterList-keeps, left_with}
+use Rattle.c_types.proofs.Deriving.{Keeps-table, Keeps-trans, IsParameterList-keeps, left_with, list_at}
+use Rattle.c_types.proofs.Whole.{Keeps-stays}
 use Rattle.c_types.proofs.table.Types.parameter_list.Goals as goal
 
 pub loop-index-init : goal.loop-index-init
@@ -26,3 +27,12 @@ loop-index-preserved c =
       Keeps-trans c.args.self.now t t' c.loop-index.invariant.0 kept,
       subst (λ (xs : List ℕ). IsParameterList t' xs c.in_ok-list-2.list) (sym (left_with types i 0 (omega arith))) list,
     )
+
+pub number_of-requires-in-loop-index-clause-fits : goal.number_of-requires-in-loop-index-clause-fits
+number_of-requires-in-loop-index-clause-fits c = (
+  (Keeps-stays c.args.self.now c.loop-index.self c.loop-index.invariant.0).types _ (c.requires (c.loop-index.index - 1) 0 (omega arith)),
+  list_at c.loop-index.self _ c.loop-index.list c.loop-index.invariant.1,
+)
+
+pub returns-clause-number : goal.returns-clause-number
+returns-clause-number c = list_at c.loop-index.self _ c.loop-index.list c.loop-index.invariant.1
