@@ -1,0 +1,66 @@
+-- Values of places, and addresses (C11 6.3.2.1).
+use Rattle.std.specs.Prelude.{ℕ, ◌&&◌, Bool, true, false, not, bit_or, [], ◌∷◌, None}
+use Rattle.c_types.specs.declared.ctype.CType.{CType}
+use Rattle.c_types.specs.declared.ctype.CType.TheVariants.{Void, Integer, Enumeration, Pointer, ArrayOf, Function, Structure, Union}
+use Rattle.c_tree.specs.declared.operation.Operation.TheVariants as op
+use Rattle.c_check_expr.specs.declared.known.Known.TheVariants as known
+use Rattle.c_check_expr.specs.Outcomes.{State, Checked, Fine, Breaks, Broke, by_rules, ◌breaks◌}
+use Rattle.c_check_expr.specs.TypedExpressions.{Typed, Place, Value, InLocal, InMemory, InValue, Designator, value, with_operation, access_of, part_of, is_record, is_complete}
+
+-- an array is a pointer to its first element, with the array's qualifiers; a structure is its address, if it is complete (rule 4); a
+-- scalar is loaded
+abbrev pub memory_value : State → Typed → CType → Checked Typed
+memory_value s t (ArrayOf a) = Fine s (value (Pointer (part_of a.element.number (bit_or a.element.qualifiers.0 t.quals))) t.line t.made t.known)
+memory_value s t (Structure tag contents) = by_rules t.line (4 breaks not (is_complete (Structure tag contents)) ∷ []) s (value (Structure tag contents) t.line t.made known.Nothing)
+memory_value s t (Union tag contents) = by_rules t.line (4 breaks not (is_complete (Union tag contents)) ∷ []) s (value (Union tag contents) t.line t.made known.Nothing)
+memory_value s t Void = Fine s (value Void t.line t.made known.Nothing)
+memory_value s t (Function signature) = Fine s (value Void t.line t.made known.Nothing)
+memory_value s t (Integer kind) = Fine s (value (Integer kind) t.line (with_operation t.line (op.Load (access_of (Integer kind) t.quals)) [] t.made) known.Nothing)
+memory_value s t (Enumeration tag) = Fine s (value (Enumeration tag) t.line (with_operation t.line (op.Load (access_of (Enumeration tag) t.quals)) [] t.made) known.Nothing)
+memory_value s t (Pointer to) = Fine s (value (Pointer to) t.line (with_operation t.line (op.Load (access_of (Pointer to) t.quals)) [] t.made) known.Nothing)
+
+-- the value of an expression: what its place has, and of a function a pointer to it
+abbrev pub read_place : State → Typed → Place → Checked Typed
+read_place s t Value = Fine s t
+read_place s t (InLocal local number is_register) = Fine s (value t.ty t.line t.made known.Nothing)
+read_place s t (InMemory number is_register) = memory_value s t t.ty
+read_place s t (InValue number) = memory_value s t t.ty
+read_place s t (Designator function number) = Fine s (value (Pointer (part_of number 0)) t.line t.made t.known)
+
+abbrev pub read : State → Typed → Checked Typed
+read s t = read_place s t t.place
+
+-- an expression that is found, as a value. What breaks a rule by itself has no place
+abbrev pub read_found : Checked Typed → Checked Typed
+read_found (Fine s t) = read s t
+read_found (Breaks broken s k) = Breaks broken s k
+read_found (Broke broken) = Broke broken
+
+abbrev pub is_lvalue : Place → Bool
+is_lvalue Value = false
+is_lvalue (InLocal local number is_register) = true
+is_lvalue (InMemory number is_register) = true
+is_lvalue (InValue number) = false
+is_lvalue (Designator function number) = false
+
+abbrev pub is_register : Place → Bool
+is_register Value = false
+is_register (InLocal local number r) = r
+is_register (InMemory number r) = r
+is_register (InValue number) = false
+is_register (Designator function number) = false
+
+-- what an assignment changes is an object with a size (rule 4); nothing else is looked at before its right side is
+abbrev pub target : State → Typed → Checked Typed
+target s t = by_rules t.line (4 breaks (is_lvalue t.place && (is_record t.ty && not (is_complete t.ty))) ∷ []) s t
+
+abbrev pub target_found : Checked Typed → Checked Typed
+target_found (Fine s t) = target s t
+target_found (Breaks broken s k) = Breaks broken s k
+target_found (Broke broken) = Broke broken
+
+-- what a pointer value points to, as a place: void is no place
+abbrev pub behind : State → ℕ → Typed → (number quals : ℕ) → CType → Typed
+behind s line t number quals Void = value Void line t.made known.Nothing
+behind s line t number quals (Function signature) = record { ty = Function signature; quals = 0; place = Designator None number; line = line; made = t.made; known = t.known; is_null = false }
+behind s line t number quals ty = record { ty = ty; quals = quals; place = InMemory number false; line = line; made = t.made; known = t.known; is_null = false }
