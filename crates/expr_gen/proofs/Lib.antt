@@ -1,0 +1,20 @@
+mod Numbers
+pub mod Between
+pub mod Registers
+pub mod Stretch
+pub mod Instructions
+pub mod Landing
+pub mod Changes
+pub mod Plain
+pub mod Locals
+pub mod Memory
+pub mod Rounds
+pub mod Calls
+pub mod Intrinsics
+pub mod Atomics
+pub mod Printing
+pub mod Copies
+pub mod Exchanges
+pub mod Sizes
+pub mod Operations
+pub mod Expressions

@@ -1,0 +1,5 @@
+use Rattle.expr_gen.proofs.Expressions.{expressions_play}
+use Rattle.expr_gen.proofs.laws.expressions_play.Goals as goal
+
+pub returns : goal.returns
+returns c = expressions_play

@@ -1,0 +1,58 @@
+-- The code of an operation and the code of an expression play them.
+use Rattle.std.specs.Prelude.{ℕ, ◌<◌, ◌≤◌, ◌^◌, List}
+use Rattle.c_tree.specs.declared.expr.Expr.{Expr, Apply', Chain', Logic', Choose', Print', Row_of-Expr, end_of-Expr, more_of-Expr, Row_of-Link, end_of-Link, more_of-Link}
+use Rattle.c_tree.specs.declared.operation.Operation.{Operation}
+use Rattle.c_tree.specs.declared.operation.Operation.TheVariants as op
+use Rattle.c_tree.specs.Operands.{Outline, Context, OpFits}
+use Rattle.c_tree.specs.Fits.{ExprFits}
+use Rattle.ideal_machine.specs.declared.value.Value.{Value}
+use Rattle.ideal_machine.specs.Values.{State}
+use Rattle.ideal_machine.specs.Play.{Log, run}
+use Rattle.ideal_machine.specs.Phrases.{Phrase}
+use Rattle.tree_play.specs.Around.{line_in}
+use Rattle.tree_play.specs.Apply.{apply}
+use Rattle.tree_play.specs.Expressions.{play_expr}
+use Rattle.expr_gen.specs.Code.{op_code, expr_code}
+use Rattle.expr_gen.specs.Stretch.{Site, around_at, Between, Runs, from, HasWords, CallRuns, taken, Matches, Arrived, InRegister}
+
+-- a copy's units are counted in a word, as the tree's own type says
+abbrev pub IsCounted : Operation → Type 0
+IsCounted (op.Copy unit count) = count < 2 ^ 64
+IsCounted o = Unit {0}
+
+abbrev mutual
+  pub CopiesAreCounted : Expr → Type 0
+  CopiesAreCounted (Apply' line o z operands) = IsCounted o × OperandsAreCounted operands
+  CopiesAreCounted (Chain' line s (more_of-Expr first end_of-Expr) z links) = CopiesAreCounted first × LinksAreCounted links
+  CopiesAreCounted (Logic' line all z operands) = OperandsAreCounted operands
+  CopiesAreCounted (Choose' line s (more_of-Expr test end_of-Expr) s1 (more_of-Expr one end_of-Expr) s2 (more_of-Expr other end_of-Expr)) =
+      CopiesAreCounted test × (CopiesAreCounted one × CopiesAreCounted other)
+  CopiesAreCounted (Print' line z operands pieces) = OperandsAreCounted operands
+
+  pub OperandsAreCounted : {m : _} → Row_of-Expr m → Type 0
+  OperandsAreCounted end_of-Expr = Unit {0}
+  OperandsAreCounted (more_of-Expr e rest) = CopiesAreCounted e × OperandsAreCounted rest
+
+  pub LinksAreCounted : {m : _} → Row_of-Link m → Type 0
+  LinksAreCounted end_of-Link = Unit {0}
+  LinksAreCounted (more_of-Link o z operands links) = IsCounted o × (OperandsAreCounted operands × LinksAreCounted links)
+
+-- the operands stand in t, t + 1, .., and the value comes into t
+abbrev pub OperationsPlay : Type 0
+OperationsPlay =
+    (site : Site) (rounds : ℕ) (call : (function line : ℕ) → List Value → Phrase Value) → 0 < rounds → CallRuns site call →
+    (outline : Outline) (here : Context) (o : Operation) (line t n from_index to : ℕ) (base registers : List Value) (env : State) (w : Log) →
+    here.locals ≤ t → OpFits outline here o n → IsCounted o → HasWords w →
+    Between site from_index (op_code site.library o line t n from_index) to → Matches here.locals t base registers env →
+    Runs site (Arrived here.locals t to base (InRegister t)) (from site from_index registers) w
+    (run (apply (around_at site rounds call) o (line_in (around_at site rounds call) line) (taken registers t n) env) w)
+
+-- the code of every expression plays it, wherever it stands and whatever it is answered
+abbrev pub ExpressionsPlay : Type 0
+ExpressionsPlay =
+    (site : Site) (rounds : ℕ) (call : (function line : ℕ) → List Value → Phrase Value) → 0 < rounds → CallRuns site call →
+    (outline : Outline) (here : Context) (e : Expr) (t from_index to : ℕ) (base registers : List Value) (env : State) (w : Log) →
+    here.locals ≤ t → ExprFits outline here e → CopiesAreCounted e → HasWords w →
+    Between site from_index (expr_code site.library e t from_index) to → Matches here.locals t base registers env →
+    Runs site (Arrived here.locals t to base (InRegister t)) (from site from_index registers) w
+    (run (play_expr (around_at site rounds call) e env) w)

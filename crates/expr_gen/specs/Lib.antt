@@ -1,0 +1,4 @@
+pub mod Operations
+pub mod Code
+pub mod Stretch
+pub mod Correct
