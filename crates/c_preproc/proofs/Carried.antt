@@ -81,7 +81,7 @@ no_hashes bytes p (t ∷ tokens) none all = by (is_punctuator bytes t (codes "#"
     by true deep e both = cc
     by false deep e both = rw (or_false (p t) both.0, deep e both.1) refl
 
-filter_holds : (p : Token → Bool) (test : Macro → Bool) (macros : List Macro) → BodiesHold p macros → BodiesHold p (filter test macros)
+pub filter_holds : (p : Token → Bool) (test : Macro → Bool) (macros : List Macro) → BodiesHold p macros → BodiesHold p (filter test macros)
 filter_holds p test [] all = refl
 filter_holds p test (m ∷ macros) all =
     let both = and_parts (list_all p m.body) (list_all (λ macro. list_all p macro.body) macros) all in

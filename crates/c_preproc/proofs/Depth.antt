@@ -11,7 +11,7 @@ pub flat_map-same : (f g : Token → List Token) (tokens : List Token) → ((t :
 flat_map-same f g [] same = refl
 flat_map-same f g (t ∷ tokens) same = ap (λ ts. ts ++ flat_map f tokens) (same t) ∙ ap (λ ts. g t ++ ts) (flat_map-same f g tokens same)
 
-length-filter_le : (p : Macro → Bool) (macros : List Macro) → length (filter p macros) ≤ length macros
+pub length-filter_le : (p : Macro → Bool) (macros : List Macro) → length (filter p macros) ≤ length macros
 length-filter_le p [] = omega arith
 length-filter_le p (m ∷ macros) = by (p m) (length-filter_le p macros)
   where
@@ -42,20 +42,21 @@ body_found bytes macros t body h = by (is_name t) (macro_of macros (text_of byte
 pub length-body : (bytes : List ℕ) (macros : List Macro) (t : Token) (body : List Token) → body_for bytes macros t ≡ Some body → length (without macros (text_of bytes t)) < length macros
 length-body bytes macros t body h = let found = body_found bytes macros t body h in length-without macros (text_of bytes t) found.0 found.1
 
+-- without macros a token stays
+pub none_there : (k : ℕ) (bytes : List ℕ) (macros : List Macro) (t : Token) → length macros ≤ 0 → replacement k bytes macros t ≡ t ∷ []
+unfolding replacement
+none_there zero bytes macros t h = refl
+none_there (suc k) bytes macros t h = by (body_for bytes macros t) refl
+  where
+    by : (o : Option (List Token)) → body_for bytes macros t ≡ o → option_map_or (flat_map (replacement k bytes (without macros (text_of bytes t)))) o (t ∷ []) ≡ t ∷ []
+    by None e = refl
+    by (Some body) e = let less = length-body bytes macros t body e in absurd (omega arith)
+
 -- two depths that are both enough
 depths : (n k : ℕ) (bytes : List ℕ) (macros : List Macro) (t : Token) → length macros ≤ n → length macros ≤ k → replacement n bytes macros t ≡ replacement k bytes macros t
 unfolding replacement
-depths zero zero bytes macros t h g = refl
-depths zero (suc k) bytes macros t h g = by (body_for bytes macros t) refl
-  where
-    by : (o : Option (List Token)) → body_for bytes macros t ≡ o → t ∷ [] ≡ option_map_or (flat_map (replacement k bytes (without macros (text_of bytes t)))) o (t ∷ [])
-    by None e = refl
-    by (Some body) e = let less = length-body bytes macros t body e in absurd (omega arith)
-depths (suc n) zero bytes macros t h g = by (body_for bytes macros t) refl
-  where
-    by : (o : Option (List Token)) → body_for bytes macros t ≡ o → option_map_or (flat_map (replacement n bytes (without macros (text_of bytes t)))) o (t ∷ []) ≡ t ∷ []
-    by None e = refl
-    by (Some body) e = let less = length-body bytes macros t body e in absurd (omega arith)
+depths zero k bytes macros t h g = sym (none_there k bytes macros t h)
+depths (suc n) zero bytes macros t h g = none_there (suc n) bytes macros t g
 depths (suc n) (suc k) bytes macros t h g = by (body_for bytes macros t) refl (depths n k bytes (without macros (text_of bytes t)))
   where
     by : (o : Option (List Token)) → body_for bytes macros t ≡ o → ((u : Token) → length (without macros (text_of bytes t)) ≤ n → length (without macros (text_of bytes t)) ≤ k → replacement n bytes (without macros (text_of bytes t)) u ≡ replacement k bytes (without macros (text_of bytes t)) u) → option_map_or (flat_map (replacement n bytes (without macros (text_of bytes t)))) o (t ∷ []) ≡ option_map_or (flat_map (replacement k bytes (without macros (text_of bytes t)))) o (t ∷ [])

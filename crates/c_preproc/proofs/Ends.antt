@@ -15,7 +15,7 @@ use Rattle.c_preproc.specs.Macros.{Definitions, Macro, body_for, expansion_of_to
 use Rattle.c_preproc.specs.Expansion.{State, after_blocks, after_directive, after_token, filc_macro, first_state, is_active, token_limit, with_digits, with_expansion}
 use Rattle.c_preproc.proofs.Lists.{and_false, all_append, all_take}
 use Rattle.c_preproc.proofs.Blocks.{stands_behind, take_while-front, take_while-pass, take_while-stop}
-use Rattle.c_preproc.proofs.Carried.{BodiesHold, Follows, Keeps, any_token, directive_bytes, directive_follows, kept, keeps_cond, keeps_then, or_punctuator, token_bytes}
+use Rattle.c_preproc.proofs.Carried.{BodiesHold, Follows, Keeps, any_token, directive_bytes, directive_follows, filter_holds, kept, keeps_cond, keeps_then, or_punctuator, token_bytes}
 
 -- ---- what an expansion is made of
 
@@ -47,21 +47,11 @@ all_flat_map p f (t ∷ tokens) each all =
     let both = and_parts (p t) (list_all p tokens) all in
     all_append p (f t) (flat_map f tokens) (each t both.0) (all_flat_map p f tokens each both.1)
 
-without_all : (p : Token → Bool) (macros : List Macro) (name : List ℕ) → BodiesHold p macros → BodiesHold p (without macros name)
-without_all p [] name all = refl
-without_all p (m ∷ macros) name all =
-    let both = and_parts (list_all p m.body) (list_all (λ macro. list_all p macro.body) macros) all in
-    by (same_text m.name name) both.0 (without_all p macros name both.1)
-  where
-    by : (b : Bool) → list_all p m.body ≡ true → BodiesHold p (without macros name) → BodiesHold p (cond (not b) (m ∷ without macros name) (without macros name))
-    by true one deep = deep
-    by false one deep = rw (one, deep) refl
-
 replacement-all : (p : Token → Bool) (depth : ℕ) (bytes : List ℕ) (macros : List Macro) (t : Token) → BodiesHold p macros → p t ≡ true → list_all p (replacement depth bytes macros t) ≡ true
 unfolding replacement
 replacement-all p zero bytes macros t all one = rw one refl
 replacement-all p (suc depth) bytes macros t all one =
-    by (body_for bytes macros t) refl (λ u h. replacement-all p depth bytes (without macros (text_of bytes t)) u (without_all p macros (text_of bytes t) all) h)
+    by (body_for bytes macros t) refl (λ u h. replacement-all p depth bytes (without macros (text_of bytes t)) u (filter_holds p (λ macro. not (same_text macro.name (text_of bytes t))) macros all) h)
   where
     by : (o : Option (List Token)) → body_for bytes macros t ≡ o → ((u : Token) → p u ≡ true → list_all p (replacement depth bytes (without macros (text_of bytes t)) u) ≡ true) → list_all p (option_map_or (flat_map (replacement depth bytes (without macros (text_of bytes t)))) o (t ∷ [])) ≡ true
     by None e deep = rw one refl

@@ -1,7 +1,6 @@
 -- Lists of tokens: what holds of all, of their parts, and of two lists side by side.
-use Rattle.std.proofs.Common.{◌≡◌, ℕ, zero, suc, ◌+◌, ◌<◌, ◌&&◌, List, [], ◌∷◌, ◌++◌, Bool, true, false, refl, ap, sym, ◌∙◌, arith, length, get_or, take, drop, Some}
+use Rattle.std.proofs.Common.{◌≡◌, ℕ, zero, suc, ◌<◌, ◌&&◌, List, [], ◌∷◌, ◌++◌, Bool, true, false, refl, ap, sym, ◌∙◌, arith, length, get_or, take, drop, Some}
 use Rattle.std.proofs.lemmas.Bool.{and_parts}
-use Rattle.std.proofs.lemmas.List.{drop_more}
 use Rattle.std.specs.List.{list_all, slice_get}
 use Rattle.c_lexer.specs.declared.token.Token.{Token}
 use Rattle.c_preproc.specs.Texts.{same_token, same_tokens}
@@ -45,16 +44,6 @@ all_append p (x ∷ xs) ys all more =
 
 pub all_push : {X : Type 0} (p : X → Bool) (xs after : List X) (x : X) → after ≡ xs ++ x ∷ [] → list_all p xs ≡ true → p x ≡ true → list_all p after ≡ true
 all_push p xs after x is all one = ap (list_all p) is ∙ all_append p xs (x ∷ []) all (rw one refl)
-
-pub all_first : {X : Type 0} (p : X → Bool) (all : List X) (x : X) (xs : List X) → all ≡ x ∷ xs → list_all p all ≡ true → p x ≡ true
-all_first p all x xs is h = (and_parts (p x) (list_all p xs) (ap (list_all p) (sym is) ∙ h)).0
-
-pub all_behind : {X : Type 0} (p : X → Bool) (all : List X) (x : X) (xs : List X) → all ≡ x ∷ xs → list_all p all ≡ true → list_all p xs ≡ true
-all_behind p all x xs is h = (and_parts (p x) (list_all p xs) (ap (list_all p) (sym is) ∙ h)).1
-
--- the first of what is left of a list
-pub drop_read : {X : Type 0} (xs : List X) (i : ℕ) (x : X) → i < length xs → x ≡ get_or xs i x → drop i xs ≡ x ∷ drop (i + 1) xs
-drop_read xs i x h is = drop_more xs i x h ∙ ap (λ y. y ∷ drop (i + 1) xs) (sym is)
 
 -- an element stays where it is in a longer list
 pub slice_get_before : {X : Type 0} (xs more : List X) (i : ℕ) (x : X) → slice_get xs i ≡ Some x → slice_get (xs ++ more) i ≡ Some x

@@ -102,9 +102,6 @@ defined-garbage places e n before (x ∷ es) k older h =
 -- ---- the end of a definition
 
 module _ (places new : List ℕ → Option ℕ) (name : List ℕ) (changes : Changes places new name None) where
-  other : Macro → Bool
-  other macro = not (same_text macro.name name)
-
   ended : (es : List Entry) (k : ℕ) (older : List Macro) → defined_from new k es (filter (λ macro. not (same_text macro.name name)) older) ≡ filter (λ macro. not (same_text macro.name name)) (defined_from places k es older)
   unfolding defined_from
   ended [] k older = refl
@@ -112,23 +109,18 @@ module _ (places new : List ℕ → Option ℕ) (name : List ℕ) (changes : Cha
       ap (defined_from new (suc k) es) (by (same_text x.name.items name) refl (is_place (places x.name.items) k) refl)
       ∙ ended es (suc k) (cond (is_place (places x.name.items) k) (macro_of_entry x ∷ older) older)
     where
+      gone : same_text x.name.items name ≡ true → new x.name.items ≡ None
+      gone s = ap new (same_text_then x.name.items name s) ∙ changes.here
+
+      stays : same_text x.name.items name ≡ false → new x.name.items ≡ places x.name.items
+      stays s = changes.others x.name.items (λ g. not_same _ _ s (sym g))
+
       by : (b : Bool) → same_text x.name.items name ≡ b → (p : Bool) → is_place (places x.name.items) k ≡ p
           → cond (is_place (new x.name.items) k) (macro_of_entry x ∷ filter (λ macro. not (same_text macro.name name)) older) (filter (λ macro. not (same_text macro.name name)) older) ≡ filter (λ macro. not (same_text macro.name name)) (cond (is_place (places x.name.items) k) (macro_of_entry x ∷ older) older)
-      by true s p e =
-          let same = same_text_then x.name.items name s in
-          let gone : new x.name.items ≡ None = ap new same ∙ changes.here in
-          rw gone (with_or_without p e)
-        where
-          with_or_without : (p : Bool) → is_place (places x.name.items) k ≡ p → filter (λ macro. not (same_text macro.name name)) older ≡ filter (λ macro. not (same_text macro.name name)) (cond (is_place (places x.name.items) k) (macro_of_entry x ∷ older) older)
-          with_or_without true e = rw (e, s) refl
-          with_or_without false e = rw e refl
-      by false s p e =
-          let kept : new x.name.items ≡ places x.name.items = changes.others x.name.items (λ g. not_same _ _ s (sym g)) in
-          rw kept (with_or_without p e)
-        where
-          with_or_without : (p : Bool) → is_place (places x.name.items) k ≡ p → cond (is_place (places x.name.items) k) (macro_of_entry x ∷ filter (λ macro. not (same_text macro.name name)) older) (filter (λ macro. not (same_text macro.name name)) older) ≡ filter (λ macro. not (same_text macro.name name)) (cond (is_place (places x.name.items) k) (macro_of_entry x ∷ older) older)
-          with_or_without true e = rw (e, s) refl
-          with_or_without false e = rw e refl
+      by true s true e = rw (gone s, e, s) refl
+      by true s false e = rw (gone s, e) refl
+      by false s true e = rw (stays s, e, s) refl
+      by false s false e = rw (stays s, e) refl
 
 -- ---- a look-up
 
@@ -237,12 +229,6 @@ module _ (places : List ℕ → Option ℕ) (entries : List Entry) (indexed : Is
             let nothing : None ≡ Some place = sym changes.here ∙ ap new (same_text_then name other s) ∙ leads in
             cc
         by false s = indexed other place (sym (changes.others other (not_same _ _ s)) ∙ leads)
-
-pub first_indexed : (places : List ℕ → Option ℕ) (entries : List Entry) → ((name : List ℕ) → places name ≡ None) → IsIndexed places entries
-first_indexed places entries nowhere name place h = absurd (nothing (places name) place (nowhere name) h)
-  where
-    nothing : (o : Option ℕ) (p : ℕ) → o ≡ None → o ≡ Some p → ⊥
-    nothing o p h g = cc
 
 pub first_defined : (places : List ℕ → Option ℕ) (entries : List Entry) → entries ≡ [] → defined_of places entries ≡ []
 unfolding defined_from

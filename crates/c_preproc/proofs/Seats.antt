@@ -11,9 +11,6 @@ or_true : (b : Bool) → (b || true) ≡ true
 or_true true = refl
 or_true false = refl
 
-same_place : (p : ℕ) → (p == p) ≡ true
-same_place p = eq-eqb p p refl
-
 from_test : (p q : ℕ) → (p == q) ≡ true → p ≡ q
 from_test p q h = grind (arith, nat_tests)
 
@@ -30,10 +27,7 @@ place_of_open (x ∷ xs) place h = by (place_of_open xs place) (x == place) refl
     by behind true e g = (zero, omega arith, from_test x place e)
     by behind false e g = let deep = behind g in (suc deep.0, omega (arith, deep.1), deep.2)
 
-abbrev pub Seated : List ℕ → List ℕ → Type 0
-Seated seats xs = (k : ℕ) → k < length xs → get_or seats (get_or xs k 0) 0 ≡ k
-
-pub seat_in : (seats xs : List ℕ) (place : ℕ) → Seated seats xs → get_or seats place 0 < length xs → nat_eq (get_or xs (get_or seats place 0) 0) place ≡ is_one_of xs place
+pub seat_in : (seats xs : List ℕ) (place : ℕ) → AreSeated seats xs → get_or seats place 0 < length xs → nat_eq (get_or xs (get_or seats place 0) 0) place ≡ is_one_of xs place
 seat_in seats xs place seated less = by (is_one_of xs place) refl (get_or xs (get_or seats place 0) 0 == place) refl
   where
     by : (o : Bool) → is_one_of xs place ≡ o → (b : Bool) → (get_or xs (get_or seats place 0) 0 == place) ≡ b → b ≡ o
@@ -44,7 +38,7 @@ seat_in seats xs place seated less = by (is_one_of xs place) refl (get_or xs (ge
     by false e true g = absurd (false≢true (sym e ∙ open_by_place xs (get_or seats place 0) place less (from_test _ _ g)))
     by false e false g = refl
 
-pub seat_past : (seats xs : List ℕ) (place : ℕ) → Seated seats xs → length xs ≤ get_or seats place 0 → nat_lt (get_or seats place 0) (length xs) ≡ is_one_of xs place
+pub seat_past : (seats xs : List ℕ) (place : ℕ) → AreSeated seats xs → length xs ≤ get_or seats place 0 → nat_lt (get_or seats place 0) (length xs) ≡ is_one_of xs place
 seat_past seats xs place seated past = le-ltb (get_or seats place 0) (length xs) past ∙ sym (by (is_one_of xs place) refl)
   where
     by : (o : Bool) → is_one_of xs place ≡ o → is_one_of xs place ≡ false

@@ -12,8 +12,8 @@ use Rattle.c_preproc.specs.Texts.{is_name, same_text, text_of}
 use Rattle.c_preproc.specs.Macros.{Macro, body_for, macro_of, replacement_of, without}
 use Rattle.c_preproc.specs.Code.Table.{IsIndexed, body_at, body_of}
 use Rattle.c_preproc.specs.Code.NameFilter.{AreIn, IsMore, is_in, may_have}
-use Rattle.c_preproc.specs.Code.Expander.{Setting, IsStore, LeavesOut, NameYields, but_for, entry_of, if_of, is_kept, is_one_of, part_of}
-use Rattle.c_preproc.proofs.Depth.{length-body, names_are_replaced}
+use Rattle.c_preproc.specs.Code.Expander.{Setting, IsStore, NameYields, but_for, entry_of, if_of, is_kept, is_one_of, part_of}
+use Rattle.c_preproc.proofs.Depth.{length-body, length-filter_le, names_are_replaced, none_there}
 use Rattle.c_preproc.proofs.LeftOut.{entry_leads, macro_of-without, not_same, same_text_then, then_same_text}
 use Rattle.c_preproc.proofs.Lists.{all_push, slice_get_before}
 use Rattle.c_preproc.proofs.MacroTable.{entry_at, store_empty}
@@ -72,12 +72,8 @@ body_other bytes name macros t body nowhere h e = by (is_name t) (same_text name
 -- such a macro makes no difference
 makes_no_difference : (n : ℕ) (bytes name : List ℕ) (macros : List Macro) (t : Token) → length macros ≤ n → StandsNowhere bytes name macros → is_other bytes name t ≡ true → replacement_of bytes macros t ≡ replacement_of bytes (without macros name) t
 makes_no_difference zero bytes name macros t size nowhere h =
-    names_are_replaced bytes macros t ∙ by (body_for bytes macros t) refl
-    ∙ sym (names_are_replaced bytes (without macros name) t ∙ ap (λ o. option_map_or (flat_map (replacement_of bytes (without (without macros name) (text_of bytes t)))) o (t ∷ [])) (body_without bytes name macros t h))
-  where
-    by : (o : Option (List Token)) → body_for bytes macros t ≡ o → option_map_or (flat_map (replacement_of bytes (without macros (text_of bytes t)))) o (t ∷ []) ≡ option_map_or (flat_map (replacement_of bytes (without (without macros name) (text_of bytes t)))) o (t ∷ [])
-    by None e = refl
-    by (Some body) e = let less = length-body bytes macros t body e in absurd (omega arith)
+    let fewer = length-filter_le (λ macro. not (same_text macro.name name)) macros in
+    none_there (length macros) bytes macros t size ∙ sym (none_there (length (without macros name)) bytes (without macros name) t (omega arith))
 makes_no_difference (suc n) bytes name macros t size nowhere h =
     names_are_replaced bytes macros t
     ∙ by (λ (u : Token) (less : length (without macros (text_of bytes t)) ≤ n) (k : is_other bytes name u ≡ true). makes_no_difference n bytes name (without macros (text_of bytes t)) u less (stands_nowhere-less bytes name (text_of bytes t) macros nowhere) k)

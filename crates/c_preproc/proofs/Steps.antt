@@ -11,7 +11,8 @@ use Rattle.c_lexer.specs.declared.token.Token.{Token}
 use Rattle.c_preproc.specs.declared.expander.Expander.{Expander}
 use Rattle.c_preproc.specs.declared.expander.Fit.{Fit}
 use Rattle.c_preproc.specs.declared.expander.Fit.TheVariants.{Fits, TooMany}
-use Rattle.c_preproc.specs.declared.expander.Found.TheVariants as found
+use Rattle.c_preproc.specs.declared.expander.Found.{Found}
+use Rattle.c_preproc.specs.declared.expander.Found.TheVariants.{Plain, Hidden, Known, New}
 use Rattle.c_preproc.specs.declared.expander.Frame.{Frame}
 use Rattle.c_preproc.specs.declared.expander.Kept.{Kept}
 use Rattle.c_preproc.specs.Macros.{expansion_of_token, placed_at, replacement_of}
@@ -42,53 +43,25 @@ store_grown s x stack tokens store grown = record {
 
 -- ---- what a token is found to be
 
+-- what each finding says
 module _ (opened : List ℕ) (kept : ℕ → Option Kept) where
-  found_plain : (o : Option ℕ) → found.Plain ≡ found_by opened kept o → o ≡ None
-  found_plain None h = refl
-  found_plain (Some e) h = by (is_one_of opened e) (kept e) h
-    where
-      by : (b : Bool) (k : Option Kept) → found.Plain ≡ cond b found.Hidden (known_or_new e k) → Some e ≡ None
-      by true k g = cc
-      by false None g = cc
-      by false (Some k) g = cc
+  abbrev Means : Option ℕ → Found → Type 0
+  Means o Plain = o ≡ None
+  Means o Hidden = (e : ℕ) × (o ≡ Some e) × (is_one_of opened e ≡ true)
+  Means o (Known k) = (e : ℕ) × (o ≡ Some e) × (is_one_of opened e ≡ false) × (kept e ≡ Some k)
+  Means o (New e) = (o ≡ Some e) × (is_one_of opened e ≡ false) × (is_some (kept e) ≡ false)
 
-  found_hidden : (o : Option ℕ) → found.Hidden ≡ found_by opened kept o → (e : ℕ) × (o ≡ Some e) × (is_one_of opened e ≡ true)
-  found_hidden None h = absurd (by h)
+  found_means : (o : Option ℕ) → Means o (found_by opened kept o)
+  found_means None = refl
+  found_means (Some e) = by (is_one_of opened e) refl (kept e) refl
     where
-      by : found.Hidden ≡ found.Plain → ⊥
-      by g = cc
-  found_hidden (Some e) h = by (is_one_of opened e) (kept e) refl h
-    where
-      by : (b : Bool) (k : Option Kept) → is_one_of opened e ≡ b → found.Hidden ≡ cond b found.Hidden (known_or_new e k) → (e' : ℕ) × (Some e ≡ Some e') × (is_one_of opened e' ≡ true)
-      by true k f g = (e, refl, f)
-      by false None f g = cc
-      by false (Some k) f g = cc
+      by : (b : Bool) → is_one_of opened e ≡ b → (k : Option Kept) → kept e ≡ k → Means (Some e) (cond b Hidden (known_or_new e k))
+      by true f k g = (e, refl, f)
+      by false f None g = (refl, f, ap is_some g)
+      by false f (Some k) g = (e, refl, f, g)
 
-  found_known : (k : Kept) (o : Option ℕ) → found.Known k ≡ found_by opened kept o → (e : ℕ) × (o ≡ Some e) × (is_one_of opened e ≡ false) × (kept e ≡ Some k)
-  found_known k None h = absurd (by h)
-    where
-      by : found.Known k ≡ found.Plain → ⊥
-      by g = cc
-  found_known k (Some e) h = by (is_one_of opened e) (kept e) refl refl h
-    where
-      by : (b : Bool) (o : Option Kept) → is_one_of opened e ≡ b → kept e ≡ o → found.Known k ≡ cond b found.Hidden (known_or_new e o) → (e' : ℕ) × (Some e ≡ Some e') × (is_one_of opened e' ≡ false) × (kept e' ≡ Some k)
-      by true o f i g = cc
-      by false None f i g = cc
-      by false (Some j) f i g = let same : j ≡ k = cc in (e, refl, f, i ∙ ap Some same)
-
-  found_new : (e : ℕ) (o : Option ℕ) → found.New e ≡ found_by opened kept o → (o ≡ Some e) × (is_one_of opened e ≡ false) × (is_some (kept e) ≡ false)
-  found_new e None h = absurd (by h)
-    where
-      by : found.New e ≡ found.Plain → ⊥
-      by g = cc
-  found_new e (Some d) h = by (is_one_of opened d) (kept d) refl refl h
-    where
-      by : (b : Bool) (o : Option Kept) → is_one_of opened d ≡ b → kept d ≡ o → found.New e ≡ cond b found.Hidden (known_or_new d o) → (Some d ≡ Some e) × (is_one_of opened e ≡ false) × (is_some (kept e) ≡ false)
-      by true o f i g = cc
-      by false None f i g =
-          let same : d ≡ e = cc in
-          (ap Some same, subst (λ n. is_one_of opened n ≡ false) same f, subst (λ n. is_some (kept n) ≡ false) same (ap is_some i))
-      by false (Some j) f i g = cc
+  found_view : (o : Option ℕ) (found : Found) → found ≡ found_by opened kept o → Means o found
+  found_view o found h = subst (Means o) (sym h) (found_means o)
 
 -- ---- a token is replaced
 
@@ -135,11 +108,6 @@ module _ (s : Setting) (indexed : IsIndexed s.places s.entries) (limit : ℕ) (x
   apart : (entry : ℕ) → is_one_of (entries_of (reverse x.stack.items)) entry ≡ true → is_kept x.spots.items x.kept.items entry ≡ false
   apart entry one = walking.placed.apart entry (sym (is_one_of-reverse x.stack.items entry) ∙ one)
 
-  -- the frames that a token is at are some
-  frame_and_outer : (frames : List Frame) → AreAt s (is_kept x.spots.items x.kept.items) t frames x.tokens.items → (f : Frame) × (outer : List Frame) × (frames ≡ f ∷ outer)
-  frame_and_outer [] h = absurd h
-  frame_and_outer (f ∷ outer) h = (f, outer, refl)
-
   traced_after : (more : List Token) → TokenYields s (is_kept x.spots.items x.kept.items) t more → (frames : List Frame) → AreAt s (is_kept x.spots.items x.kept.items) t frames x.tokens.items → AreTraced s (is_kept x.spots.items x.kept.items) frames (x.tokens.items ++ more)
   traced_after more one [] at = absurd at
   traced_after more one (f ∷ outer) at = traced_put s (is_kept x.spots.items x.kept.items) t f outer x.tokens.items at more (λ clean. one)
@@ -148,18 +116,18 @@ module _ (s : Setting) (indexed : IsIndexed s.places s.entries) (limit : ℕ) (x
   traced_after_hidden more [] at = absurd at
   traced_after_hidden more (f ∷ outer) at = traced_hidden s (is_kept x.spots.items x.kept.items) t f outer x.tokens.items at more
 
-  pub puts_plain : (tokens : Vec Token Global) → found.Plain ≡ found_of s x t → (r : Result Fit AllocError) → IfOk r (λ fit. Appends fit limit (t ∷ []) x.tokens.items tokens.items) → IfOk r (λ fit. IsReplaced fit s limit t x (record x { tokens = tokens }))
+  pub puts_plain : (tokens : Vec Token Global) → Plain ≡ found_of s x t → (r : Result Fit AllocError) → IfOk r (λ fit. Appends fit limit (t ∷ []) x.tokens.items tokens.items) → IfOk r (λ fit. IsReplaced fit s limit t x (record x { tokens = tokens }))
   puts_plain tokens found (Err e) room = room
   puts_plain tokens found (Ok fit) room =
-      let plain = found_plain _ _ (entry_of s t) found in
+      let plain = found_view _ _ (entry_of s t) Plain found in
       puts x.stack tokens (t ∷ []) (stays s _ _ leaves t (ap (but_for _) plain))
       (traced_after (t ∷ []) (plain_yields s _ t plain) (reverse x.stack.items) walking.at) refl refl refl fit room
 
-  pub puts_hidden : (stack : Vec Frame Global) (tokens : Vec Token Global) → found.Hidden ≡ found_of s x t → reverse stack.items ≡ taint (reverse x.stack.items) → entries_of stack.items ≡ entries_of x.stack.items
+  pub puts_hidden : (stack : Vec Frame Global) (tokens : Vec Token Global) → Hidden ≡ found_of s x t → reverse stack.items ≡ taint (reverse x.stack.items) → entries_of stack.items ≡ entries_of x.stack.items
       → (r : Result Fit AllocError) → IfOk r (λ fit. Appends fit limit (t ∷ []) x.tokens.items tokens.items) → IfOk r (λ fit. IsReplaced fit s limit t x (record x { stack = stack; tokens = tokens }))
   puts_hidden stack tokens found frames same (Err e) room = room
   puts_hidden stack tokens found frames same (Ok fit) room =
-      let hidden = found_hidden _ _ (entry_of s t) found in
+      let hidden = found_view _ _ (entry_of s t) Hidden found in
       let one : is_one_of (entries_of (reverse x.stack.items)) hidden.0 ≡ true = is_one_of-reverse x.stack.items hidden.0 ∙ hidden.2 in
       let none : but_for (entries_of (reverse x.stack.items)) (entry_of s t) ≡ None = ap (but_for _) hidden.1 ∙ ap (λ b. cond b None (Some hidden.0)) one in
       puts stack tokens (t ∷ []) (stays s _ _ leaves t none)
@@ -167,14 +135,14 @@ module _ (s : Setting) (indexed : IsIndexed s.places s.entries) (limit : ℕ) (x
       (ap (left_of s) frames ∙ left_tainted s (reverse x.stack.items)) (ap (work_of s) frames ∙ work_tainted s (reverse x.stack.items)) fit room
 
   -- what a kept expansion is
-  pub known_kept : (k : Kept) → found.Known k ≡ found_of s x t → IsKept s x.spots.items x.kept.items x.tokens.items (get_or x.spots.items k.entry 0) k × (entry_of s t ≡ Some k.entry)
+  pub known_kept : (k : Kept) → Known k ≡ found_of s x t → IsKept s x.spots.items x.kept.items x.tokens.items (get_or x.spots.items k.entry 0) k × (entry_of s t ≡ Some k.entry)
   known_kept k found =
-      let known = found_known _ _ k (entry_of s t) found in
+      let known = found_view _ _ (entry_of s t) (Known k) found in
       let there = some_of_kept (slice_get x.kept.items (get_or x.spots.items known.0 0)) known.0 k known.3 in
       let at : slice_get x.kept.items (get_or x.spots.items k.entry 0) ≡ Some k = ap (λ e. slice_get x.kept.items (get_or x.spots.items e 0)) there.1 ∙ there.0 in
       (walking.store.kept (get_or x.spots.items k.entry 0) k at, known.1 ∙ ap Some (sym there.1))
 
-  pub puts_known : (k : Kept) (tokens : Vec Token Global) → found.Known k ≡ found_of s x t
+  pub puts_known : (k : Kept) (tokens : Vec Token Global) → Known k ≡ found_of s x t
       → (r : Result Fit AllocError) → IfOk r (λ fit. Appends fit limit (part_of x.tokens.items k.start k.end) x.tokens.items tokens.items) → IfOk r (λ fit. IsReplaced fit s limit t x (record x { tokens = tokens }))
   puts_known k tokens found (Err e) room = room
   puts_known k tokens found (Ok fit) room =
@@ -187,10 +155,10 @@ module _ (s : Setting) (indexed : IsIndexed s.places s.entries) (limit : ℕ) (x
   traced_opened entry names [] at = absurd at
   traced_opened entry names (f ∷ outer) at = traced_open s (is_kept x.spots.items x.kept.items) t f outer x.tokens.items at indexed entry names
 
-  pub opens : (entry start : ℕ) (seats : Vec ℕ Global) (stack : Vec Frame Global) → found.New entry ≡ found_of s x t → start ≡ length x.tokens.items → seats.items ≡ set x.seats.items entry (length x.stack.items) → stack.items ≡ x.stack.items ++ record { entry = entry; next = 0; start = start; clean = true } ∷ []
+  pub opens : (entry start : ℕ) (seats : Vec ℕ Global) (stack : Vec Frame Global) → New entry ≡ found_of s x t → start ≡ length x.tokens.items → seats.items ≡ set x.seats.items entry (length x.stack.items) → stack.items ≡ x.stack.items ++ record { entry = entry; next = 0; start = start; clean = true } ∷ []
       → IsReplaced Fits s limit t x (record x { seats = seats; stack = stack })
   opens entry start seats stack found begins seat pushed =
-      let new = found_new _ _ entry (entry_of s t) found in
+      let new = found_view _ _ (entry_of s t) (New entry) found in
       let below = entry_below s indexed t entry (sym new.0) in
       let f : Frame = record { entry = entry; next = 0; start = start; clean = true } in
       let frames : reverse stack.items ≡ f ∷ reverse x.stack.items = ap reverse pushed ∙ reverse_last x.stack.items f in
@@ -224,8 +192,8 @@ module _ (s : Setting) (indexed : IsIndexed s.places s.entries) (limit : ℕ) (x
       by_entry entry new other true e g = let same : entry ≡ other = grind (arith, nat_tests) in ap (is_kept x.spots.items x.kept.items) (sym same) ∙ new
       by_entry entry new other false e g = walking.placed.apart other g
 
-  pub new_below : (entry : ℕ) → found.New entry ≡ found_of s x t → entry < length s.entries
-  new_below entry found = entry_below s indexed t entry (sym (found_new _ _ entry (entry_of s t) found).0)
+  pub new_below : (entry : ℕ) → New entry ≡ found_of s x t → entry < length s.entries
+  new_below entry found = entry_below s indexed t entry (sym (found_view _ _ (entry_of s t) (New entry) found).0)
 
 -- ---- a frame is taken
 

@@ -73,7 +73,8 @@ fn after_directive(
     line: u32,
     tokens: &[Token],
 ) -> Result<(), PreFault>
-    ensures { Gives (after_directive line (seen state.old) tokens.now) (λ _. seen state.new) result }
+    ensures { Gives (after_directive line (seen state.old) tokens.now)
+        (λ _. seen state.new) result }
 {
     let word = directive_word(state.macros.bytes(), tokens);
     let (_, behind) = tokens.split_at(tokens.len().min(1));

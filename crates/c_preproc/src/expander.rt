@@ -18,7 +18,7 @@ ghost use Rattle.std.specs.Prelude.{◌≡◌, ◌∷◌, ◌++◌, ◌+◌, ◌
 ghost use Rattle.c_preproc.specs.Expansion.{token_limit};
 ghost use Rattle.c_preproc.specs.Macros.{expansion_of_token, placed_at, replacement_of};
 ghost use Rattle.c_preproc.specs.Code.Table.{IsIndexed, place_of};
-ghost use Rattle.c_preproc.specs.Code.Expander.{Appends, AreSeated, Grows, IsRange, IsReplaced, IsStep, IsStore, IsWalking, IsWalkingAt, Setting, Walks, entries_of, entry_of, found_of, is_kept, is_one_of, kept_at, left_of, macros_of, part_of, setting_of, taint, work_of};
+ghost use Rattle.c_preproc.specs.Code.Expander.{Appends, AreSeated, Grows, IsRange, IsReplaced, IfFits, IsStep, IsStore, IsWalking, IsWalkingAt, Setting, entries_of, entry_of, found_of, is_kept, is_one_of, kept_at, left_of, macros_of, part_of, setting_of, taint, work_of};
 
 use crate::macros::Table;
 use c_lexer::Token;
@@ -171,7 +171,8 @@ fn copy(tokens: &mut Vec<Token>, kept: Kept, limit: usize) -> Result<Fit, AllocE
     requires ordered { kept.start ≤ kept.end }
     requires within { kept.end ≤ length tokens.old.items }
     ensures put { IfOk result
-        (λ fit. Appends fit limit (part_of tokens.old.items kept.start kept.end) tokens.old.items tokens.new.items) }
+        (λ fit. Appends fit limit (part_of tokens.old.items kept.start kept.end)
+        tokens.old.items tokens.new.items) }
     ensures grown { Grows tokens.old.items tokens.new.items }
 {
     if tokens.len() + (kept.end - kept.start) > limit {
@@ -187,7 +188,8 @@ fn copy(tokens: &mut Vec<Token>, kept: Kept, limit: usize) -> Result<Fit, AllocE
 /// Appends tokens at the line of a name, if the list isn't too long then.
 fn place(name: Token, tokens: &[Token], out: &mut Vec<Token>) -> Result<Fit, AllocError>
     ensures { IfOk result
-        (λ fit. Appends fit token_limit (map (placed_at name) tokens.now) out.old.items out.new.items) }
+        (λ fit. Appends fit token_limit (map (placed_at name) tokens.now)
+        out.old.items out.new.items) }
 {
     if out.len() + tokens.len() > TOKEN_LIMIT {
         return Ok(Fit::TooMany);
@@ -272,9 +274,12 @@ impl Expander {
         limit: usize,
     ) -> Result<Fit, AllocError>
         requires indexed { IsIndexed (place_of table.now.index) table.now.entries.items }
-        requires walking { IsWalking (setting_of bytes.now table.now) self.old (self.old.stack.items ++ frame ∷ []) }
-        ensures step { let s = setting_of bytes.now table.now in let frames = frame ∷ reverse self.old.stack.items in
-            IfOk result (λ fit. IsStep fit s limit (left_of s frames) (work_of s frames) self.old.tokens.items self.new) }
+        requires walking { IsWalking (setting_of bytes.now table.now) self.old
+            (self.old.stack.items ++ frame ∷ []) }
+        ensures step { let s = setting_of bytes.now table.now in
+            let frames = frame ∷ reverse self.old.stack.items in
+            IfOk result (λ fit. IsStep fit s limit (left_of s frames) (work_of s frames)
+            self.old.tokens.items self.new) }
         ensures store { IsStore (setting_of bytes.now table.now) self.new }
     {
         let body = table.entries[frame.entry].body.as_slice();
@@ -311,8 +316,10 @@ impl Expander {
         requires store { IsStore (setting_of bytes.now table.now) self.old }
         requires names { entry_of (setting_of bytes.now table.now) token ≡ Some entry }
         requires new { is_kept self.old.spots.items self.old.kept.items entry ≡ false }
-        ensures walk { let s = setting_of bytes.now table.now in let old = self.old.tokens.items in
-            IfOk result (λ fit. Walks fit old self.new.tokens.items (replacement_of bytes.now (macros_of s) token)) }
+        ensures walk { let s = setting_of bytes.now table.now in
+            let wanted = replacement_of bytes.now (macros_of s) token in
+            IfOk result (λ fit. IfFits fit (length wanted) token_limit
+            (self.new.tokens.items ≡ self.old.tokens.items ++ wanted)) }
         ensures store { IsStore (setting_of bytes.now table.now) self.new }
     {
         let start = self.tokens.len();
@@ -340,7 +347,8 @@ impl Expander {
         requires store { IsStore (setting_of bytes.now table.now) self.old }
         requires names { entry_of (setting_of bytes.now table.now) token ≡ Some entry }
         ensures range { let s = setting_of bytes.now table.now in
-            IfOk result (λ range. IsRange range self.new.tokens.items (replacement_of bytes.now (macros_of s) token)) }
+            let wanted = replacement_of bytes.now (macros_of s) token in
+            IfOk result (λ range. IsRange range self.new.tokens.items wanted) }
         ensures store { IsStore (setting_of bytes.now table.now) self.new }
     {
         if let Some(kept) = kept_at(&self.spots, &self.kept, entry) {
@@ -382,8 +390,8 @@ impl Expander {
     /// Nothing is kept any more, if that is so.
     pub fn forget_where(&mut self, is_so: bool)
         ensures all { is_so ≡ true → self.new.kept.items ≡ [] }
-        ensures none { is_so ≡ false → (self.new.kept.items ≡ self.old.kept.items) × (self.new.tokens.items
-            ≡ self.old.tokens.items) }
+        ensures none { is_so ≡ false → (self.new.kept.items ≡ self.old.kept.items)
+            × (self.new.tokens.items ≡ self.old.tokens.items) }
         ensures spots { self.new.spots.items ≡ self.old.spots.items }
         ensures seats { self.new.seats.items ≡ self.old.seats.items }
     {
@@ -396,8 +404,10 @@ impl Expander {
     #[tactic(auto, using(crate::proofs::Staying::zero_behind))]
     pub fn grow(&mut self) -> Result<(), AllocError>
         ensures kept { self.new.kept.items ≡ self.old.kept.items }
-        ensures spots { OnOk result (length self.old.spots.items + 1 ≤ length self.new.spots.items) }
-        ensures seats { OnOk result (length self.old.seats.items + 1 ≤ length self.new.seats.items) }
+        ensures spots { OnOk result (length self.old.spots.items + 1
+            ≤ length self.new.spots.items) }
+        ensures seats { OnOk result (length self.old.seats.items + 1
+            ≤ length self.new.seats.items) }
         ensures tokens { self.new.tokens.items ≡ self.old.tokens.items }
         ensures same_spots { (entry : ℕ)
             → slice_index self.new.spots.items entry ≡ slice_index self.old.spots.items entry }
@@ -419,7 +429,8 @@ impl Expander {
     ) -> Result<Fit, AllocError>
         requires indexed { IsIndexed (place_of table.now.index) table.now.entries.items }
         requires store { IsStore (setting_of bytes.now table.now) self.old }
-        ensures expansion { let s = setting_of bytes.now table.now in let more = expansion_of_token bytes.now (macros_of s) token in
+        ensures expansion { let s = setting_of bytes.now table.now in
+            let more = expansion_of_token bytes.now (macros_of s) token in
             IfOk result (λ fit. Appends fit token_limit more out.old.items out.new.items) }
         ensures store { IsStore (setting_of bytes.now table.now) self.new }
     {

@@ -191,7 +191,8 @@ impl Macros {
         self.define(alloc, &name, body)
     }
 
-    /// No macro has the token's name any more. What is kept stays so where no macro's tokens have the name.
+    /// No macro has the token's name any more. What is kept stays so where no macro's tokens have
+    /// the name.
     pub fn undefine(&mut self, name: Token)
         ensures bytes { self.new.bytes ≡ self.old.bytes }
         ensures macros { self.new.macros ≡ without self.old.macros (text_of self.old.bytes name) }

@@ -194,10 +194,14 @@ found_by opened kept (Some entry) = cond (is_one_of opened entry) found.Hidden (
 abbrev pub found_of : Setting → Expander → Token → Found
 found_of s x token = found_by (entries_of x.stack.items) (kept_at x.spots.items x.kept.items) (entry_of s token)
 
--- tokens were appended, or the list would be longer than the limit
+-- it fits, and that holds; or what is wanted is longer than the limit
+abbrev pub IfFits : Fit → (size limit : ℕ) → Type 0 → Type 0
+IfFits Fits size limit Holds = Holds
+IfFits TooMany size limit Holds = limit < size
+
+-- tokens were appended
 abbrev pub Appends : Fit → ℕ → List Token → List Token → List Token → Type 0
-Appends Fits limit more old new = (new ≡ old ++ more) × (length new ≤ limit)
-Appends TooMany limit more old new = limit < length old + length more
+Appends fit limit more old new = IfFits fit (length old + length more) limit ((new ≡ old ++ more) × (length new ≤ limit))
 
 -- what was left came nearer to its end: what was put out is no part of it any more
 pub record Advances (s : Setting) (left : List Token) (work : ℕ) (tokens new_tokens : List Token) (frames : List Frame) : Type 0 where
@@ -206,10 +210,10 @@ pub record Advances (s : Setting) (left : List Token) (work : ℕ) (tokens new_t
   pub gives : added ++ left_of s frames ≡ left
   pub less : work_of s frames < work
 
--- a step was made towards what was left, or it has no room
+-- a step was made towards what was left
 abbrev pub IsStep : Fit → Setting → ℕ → List Token → ℕ → List Token → Expander → Type 0
-IsStep Fits s limit left work tokens x = IsWalking s x x.stack.items × Advances s left work tokens x.tokens.items (reverse x.stack.items)
-IsStep TooMany s limit left work tokens x = limit < length tokens + length left
+IsStep fit s limit left work tokens x =
+    IfFits fit (length tokens + length left) limit (IsWalking s x x.stack.items × Advances s left work tokens x.tokens.items (reverse x.stack.items))
 
 -- a list was left as it is or grew at its end
 abbrev pub Grows : List Token → List Token → Type 0
@@ -233,17 +237,13 @@ pub record IsRunning (s : Setting) (x : Expander) (start wanted : List Token) : 
   pub grown : x.tokens.items ≡ start ++ added
   pub gives : added ++ left_of s (reverse x.stack.items) ≡ wanted
 
--- the part of the store is what is wanted, or that is longer than the limit
+-- the part of the store is what is wanted
 pub record IsPart (kept : Kept) (tokens wanted : List Token) : Type 0 where
   pub ordered : kept.start ≤ kept.end
   pub within : kept.end ≤ length tokens
   pub part : part_of tokens kept.start kept.end ≡ wanted
 
+-- there is such a part, or what is wanted is longer than the limit
 abbrev pub IsRange : Option Kept → List Token → List Token → Type 0
 IsRange None tokens wanted = token_limit < length wanted
 IsRange (Some kept) tokens wanted = IsPart kept tokens wanted
-
--- what is wanted is put into the store, or is longer than the limit
-abbrev pub Walks : Fit → List Token → List Token → List Token → Type 0
-Walks Fits old new wanted = new ≡ old ++ wanted
-Walks TooMany old new wanted = token_limit < length wanted
