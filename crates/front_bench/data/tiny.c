@@ -1,0 +1,2 @@
+#define TWO 1 2
+int x = TWO;
