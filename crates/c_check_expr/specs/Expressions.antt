@@ -56,7 +56,7 @@ use Rattle.c_check_expr.specs.declared.known.Known.{Known}
 use Rattle.c_check_expr.specs.declared.known.Known.TheVariants as known
 use Rattle.c_check_expr.specs.Outcomes.{State, MemberPlace, Contents, Checked, Fine, next, by_rules, ◌breaks◌, inner, unevaluated, seen_as}
 use Rattle.c_check_expr.specs.Constants.{known_logic, known_forward}
-use Rattle.c_check_expr.specs.TypedExpressions.{Typed, Place, Value, InLocal, InMemory, InValue, Designator, closed, made_of, leaf, with_operation, value, kind_value, constant, type_at, is_integer, is_pointer, is_scalar, is_record, is_complete, record_number, size_of, or_zero, pointed, part_of, always_has_home}
+use Rattle.c_check_expr.specs.TypedExpressions.{Typed, Place, Value, InLocal, InMemory, InValue, VoidAt, Designator, closed, made_of, leaf, with_operation, value, kind_value, constant, type_at, is_integer, is_pointer, is_scalar, is_record, is_complete, record_number, size_of, or_zero, pointed, part_of, always_has_home}
 use Rattle.c_check_expr.specs.Reading.{read, read_found, target_found, is_register, behind}
 use Rattle.c_check_expr.specs.Converting.{is_cast, cast_to}
 use Rattle.c_check_expr.specs.Operators.{takes, Sum, sum, binary, negated, complement, plus, negation, truth_made, choice, assignment, compound, step, one_at, contents_of, room_align}
@@ -92,7 +92,7 @@ with_used d s = record s { used = d ∷ s.used }
 
 abbrev pub in_memory : State → ℕ → Part → Bool → Operation → Known → Typed
 in_memory s line part is_register operation k =
-    record { ty = type_at s part.number; quals = part.qualifiers.0; place = InMemory part.number is_register; line = line; made = leaf line operation; known = k; is_null = false }
+    record { ty = type_at s part.number; quals = part.qualifiers.0; place = InMemory part.number is_register; line = line; made = leaf line operation; known = k; is_null = false; of_register = false }
 
 -- a local with a home is in memory, and any other is its value
 abbrev pub local_typed : Around → State → ℕ → DeclaredObject → ℕ → Typed
@@ -115,6 +115,7 @@ function_typed s line f =
       made = leaf line (op.Function f.number);
       known = known.Address (half.Function f.number) 0;
       is_null = false;
+      of_register = false;
     }
 
 abbrev pub unknown_name : ℕ → State → Checked Typed
@@ -175,6 +176,7 @@ place_of_part (InMemory n is_register) number = InMemory number is_register
 place_of_part (InLocal local n is_register) number = InMemory number is_register
 place_of_part Value number = InValue number
 place_of_part (InValue n) number = InValue number
+place_of_part (VoidAt n) number = InValue number
 place_of_part (Designator f n) number = InValue number
 
 -- with the qualifiers of both
@@ -189,6 +191,7 @@ member_typed line s t (Some m) =
       made = with_operation line (op.Offset m.offset) [] t.made;
       known = known_forward m.offset t.known (known.Integer 1);
       is_null = false;
+      of_register = false;
     }
 
 abbrev pub member : ℕ → ℕ → State → Typed → Checked Typed
@@ -224,6 +227,7 @@ has_address (InMemory number r) = not r
 has_address (InLocal local number r) = not r
 has_address Value = false
 has_address (InValue number) = false
+has_address (VoidAt number) = true
 
 abbrev pub number_of_place : Place → ℕ
 number_of_place (Designator function number) = number
@@ -231,6 +235,7 @@ number_of_place (InMemory number r) = number
 number_of_place (InLocal local number r) = number
 number_of_place Value = 0
 number_of_place (InValue number) = number
+number_of_place (VoidAt number) = number
 
 abbrev pub with_taken : Option ℕ → State → State
 with_taken None s = s

@@ -9,3 +9,4 @@ pub mod Calls
 pub mod Expressions
 pub mod Contexts
 pub mod Temporaries
+pub mod Laws

@@ -118,18 +118,18 @@ on_integers_in k line operator x y =
 abbrev pub on_integers : ℕ → BinOp → Typed → Typed → Typed
 on_integers line operator x y = on_integers_in (computed_in operator (kind_in x) (kind_in y)) line operator x y
 
--- pointer and integer, in either order
+-- pointer and integer, in either order. An element of a register array stays one
 abbrev pub moved : State → ℕ → Typed → Typed → Typed
 moved s line p n =
-    let bytes = or_zero (element_size s p.ty) in value p.ty line (with_operation line (op.Advance bytes) (closed n.made ∷ []) p.made) (known_forward bytes p.known n.known)
+    let bytes = or_zero (element_size s p.ty) in record (value p.ty line (with_operation line (op.Advance bytes) (closed n.made ∷ []) p.made) (known_forward bytes p.known n.known)) { of_register = p.of_register }
 
 abbrev pub moved_by : State → ℕ → Typed → Typed → Typed
 moved_by s line n p =
-    let bytes = or_zero (element_size s p.ty) in value p.ty line (with_operation line (op.AdvanceBy bytes) (closed p.made ∷ []) n.made) (known_forward bytes p.known n.known)
+    let bytes = or_zero (element_size s p.ty) in record (value p.ty line (with_operation line (op.AdvanceBy bytes) (closed p.made ∷ []) n.made) (known_forward bytes p.known n.known)) { of_register = p.of_register }
 
 abbrev pub moved_back : State → ℕ → Typed → Typed → Typed
 moved_back s line p n =
-    let bytes = or_zero (element_size s p.ty) in value p.ty line (with_operation line (op.Retreat bytes) (closed n.made ∷ []) p.made) (known_back bytes p.known n.known)
+    let bytes = or_zero (element_size s p.ty) in record (value p.ty line (with_operation line (op.Retreat bytes) (closed n.made ∷ []) p.made) (known_back bytes p.known n.known)) { of_register = p.of_register }
 
 -- a difference of pointers is a long
 abbrev pub distance : State → ℕ → Typed → Typed → Typed

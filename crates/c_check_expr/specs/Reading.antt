@@ -5,12 +5,21 @@ use Rattle.c_types.specs.declared.ctype.CType.TheVariants.{Void, Integer, Enumer
 use Rattle.c_tree.specs.declared.operation.Operation.TheVariants as op
 use Rattle.c_check_expr.specs.declared.known.Known.TheVariants as known
 use Rattle.c_check_expr.specs.Outcomes.{State, Checked, Fine, Breaks, Broke, by_rules, ◌breaks◌}
-use Rattle.c_check_expr.specs.TypedExpressions.{Typed, Place, Value, InLocal, InMemory, InValue, Designator, value, with_operation, access_of, part_of, is_record, is_complete}
+use Rattle.c_check_expr.specs.TypedExpressions.{Typed, Place, Value, InLocal, InMemory, InValue, VoidAt, Designator, value, with_operation, access_of, part_of, is_record, is_complete}
+
+abbrev pub is_register : Place → Bool
+is_register Value = false
+is_register (InLocal local number r) = r
+is_register (InMemory number r) = r
+is_register (InValue number) = false
+is_register (VoidAt number) = false
+is_register (Designator function number) = false
 
 -- an array is a pointer to its first element, with the array's qualifiers; a structure is its address, if it is complete (rule 4); a
 -- scalar is loaded
 abbrev pub memory_value : State → Typed → CType → Checked Typed
-memory_value s t (ArrayOf a) = Fine s (value (Pointer (part_of a.element.number (bit_or a.element.qualifiers.0 t.quals))) t.line t.made t.known)
+memory_value s t (ArrayOf a) =
+    Fine s (record (value (Pointer (part_of a.element.number (bit_or a.element.qualifiers.0 t.quals))) t.line t.made t.known) { of_register = is_register t.place })
 memory_value s t (Structure tag contents) = by_rules t.line (4 breaks not (is_complete (Structure tag contents)) ∷ []) s (value (Structure tag contents) t.line t.made known.Nothing)
 memory_value s t (Union tag contents) = by_rules t.line (4 breaks not (is_complete (Union tag contents)) ∷ []) s (value (Union tag contents) t.line t.made known.Nothing)
 memory_value s t Void = Fine s (value Void t.line t.made known.Nothing)
@@ -25,6 +34,7 @@ read_place s t Value = Fine s t
 read_place s t (InLocal local number is_register) = Fine s (value t.ty t.line t.made known.Nothing)
 read_place s t (InMemory number is_register) = memory_value s t t.ty
 read_place s t (InValue number) = memory_value s t t.ty
+read_place s t (VoidAt number) = Fine s (value Void t.line t.made known.Nothing)
 read_place s t (Designator function number) = Fine s (value (Pointer (part_of number 0)) t.line t.made t.known)
 
 abbrev pub read : State → Typed → Checked Typed
@@ -41,14 +51,8 @@ is_lvalue Value = false
 is_lvalue (InLocal local number is_register) = true
 is_lvalue (InMemory number is_register) = true
 is_lvalue (InValue number) = false
+is_lvalue (VoidAt number) = false
 is_lvalue (Designator function number) = false
-
-abbrev pub is_register : Place → Bool
-is_register Value = false
-is_register (InLocal local number r) = r
-is_register (InMemory number r) = r
-is_register (InValue number) = false
-is_register (Designator function number) = false
 
 -- what an assignment changes is an object with a size (rule 4); nothing else is looked at before its right side is
 abbrev pub target : State → Typed → Checked Typed
@@ -59,8 +63,8 @@ target_found (Fine s t) = target s t
 target_found (Breaks broken s k) = Breaks broken s k
 target_found (Broke broken) = Broke broken
 
--- what a pointer value points to, as a place: void is no place
+-- what a pointer value points to: void is no place, and an element of a register array is a part of it
 abbrev pub behind : State → ℕ → Typed → (number quals : ℕ) → CType → Typed
-behind s line t number quals Void = value Void line t.made known.Nothing
-behind s line t number quals (Function signature) = record { ty = Function signature; quals = 0; place = Designator None number; line = line; made = t.made; known = t.known; is_null = false }
-behind s line t number quals ty = record { ty = ty; quals = quals; place = InMemory number false; line = line; made = t.made; known = t.known; is_null = false }
+behind s line t number quals Void = record (value Void line t.made known.Nothing) { quals = quals; place = VoidAt number }
+behind s line t number quals (Function signature) = record { ty = Function signature; quals = 0; place = Designator None number; line = line; made = t.made; known = t.known; is_null = false; of_register = false }
+behind s line t number quals ty = record { ty = ty; quals = quals; place = InMemory number t.of_register; line = line; made = t.made; known = t.known; is_null = false; of_register = false }

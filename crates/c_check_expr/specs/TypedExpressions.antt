@@ -61,6 +61,8 @@ pub data Place : Type 0 where
   InMemory : (number : ℕ) (is_register : Bool) → Place
   -- a member of a structure that is no place: it lies in memory, and is no place itself (6.2.4p8)
   InValue : (number : ℕ) → Place
+  -- what a pointer to void points to, by the number of that type: no object, but it has an address (6.5.3.2p1)
+  VoidAt : (number : ℕ) → Place
   -- a function of the type of this number, by its own number where it is named
   Designator : (function : Option ℕ) (number : ℕ) → Place
 
@@ -75,9 +77,11 @@ pub record Typed : Type 0 where
   pub known : Known
   -- `(void *)0`
   pub is_null : Bool
+  -- a pointer to an element of a register array, which is a part of that
+  pub of_register : Bool
 
 abbrev pub value : CType → ℕ → Made → Known → Typed
-value ty line made k = record { ty = ty; quals = 0; place = Value; line = line; made = made; known = k; is_null = false }
+value ty line made k = record { ty = ty; quals = 0; place = Value; line = line; made = made; known = k; is_null = false; of_register = false }
 
 abbrev pub kind_value : CIntType → ℕ → Made → Known → Typed
 kind_value kind line made k = value (Integer kind) line made k

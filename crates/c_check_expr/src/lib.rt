@@ -7,6 +7,7 @@
 #![tactic(auto)]
 
 mod known;
+pub mod laws;
 
 pub use c_syntax::Expr as Tree;
 pub use c_tree::Expr;

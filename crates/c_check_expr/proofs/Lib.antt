@@ -1,0 +1,3 @@
+mod CommonKinds
+mod Converted
+pub mod Rows
