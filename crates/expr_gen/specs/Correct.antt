@@ -1,4 +1,13 @@
 -- The code of an operation and the code of an expression play them.
+--
+-- For each bound on rounds there is a bound on instructions with which the code makes the play's events, takes its answers and
+-- makes as many backward jumps and calls, and then it stands at its end with the value in its register, or has ended
+-- like the play, also where the bound cut the play. The premises:
+--
+--     0 < rounds          with no round a lock is cut between its check and its first round, where code has no place
+--     CallRuns            calls are proved after expressions, by induction on their depth
+--     HasWords            a number that a compare and exchange finds is compared in 64 bits
+--     CopiesAreCounted    and so are the units of a structure counted
 use Rattle.std.specs.Prelude.{ℕ, ◌<◌, ◌≤◌, ◌^◌, List}
 use Rattle.c_tree.specs.declared.expr.Expr.{Expr, Apply', Chain', Logic', Choose', Print', Row_of-Expr, end_of-Expr, more_of-Expr, Row_of-Link, end_of-Link, more_of-Link}
 use Rattle.c_tree.specs.declared.operation.Operation.{Operation}

@@ -2,3 +2,4 @@ pub mod Operations
 pub mod Code
 pub mod Stretch
 pub mod Correct
+pub mod Worked
