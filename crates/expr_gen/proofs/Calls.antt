@@ -13,7 +13,7 @@ use Rattle.tree_play.specs.Around.{in_state}
 use Rattle.tree_play.specs.Apply.{apply}
 use Rattle.whole_thread.specs.Act.{kinds_of}
 use Rattle.expr_gen.specs.Code.{op_code}
-use Rattle.expr_gen.specs.Stretch.{Site, around_at, Between, Bounded, from, Landing, Runs, ReturnsTo, entry, HasWords, CallRuns, taken, Matches}
+use Rattle.expr_gen.specs.Stretch.{Site, around_at, Between, Bounded, from, Landing, Runs, ReturnsTo, entry, HasWords, CallRuns, values_from, Matches}
 use Rattle.expr_gen.proofs.Stretch.{line_at, run_words, came, phrase_runs, Has, at_op}
 use Rattle.expr_gen.proofs.Landing.{Into, puts, Applied}
 
@@ -42,15 +42,15 @@ module _ (site : Site) {S A : Type 0} (Q : Landing S A) where
   pub call_runs :
       (call : (function line : ℕ) → List Value → Phrase Value) → CallRuns site call →
       (pc line d f first count : ℕ) (arguments : List Value) (regs : List Value) (w : Log) (go : Value → Play S A) → HasWords w →
-      Has site pc line (code.Call d f first count) → taken regs first count ≡ arguments →
+      Has site pc line (code.Call d f first count) → values_from regs first count ≡ arguments →
       ((v : Value) (w1 : Log) → HasWords w1 → Runs site Q (from site (pc + 1) (put_at regs d v)) w1 (run (go v) w1)) →
       Runs site Q (from site pc regs) w (run (Call (bind (call f (line_at site line) arguments) (λ _ v. go v))) w)
   call_runs call calls pc line d f first count arguments regs w go words h e each =
       let l = line_at site line in
       let b = λ (x : List Value). run (Call (bind (call f l x) (λ _ v. go v))) w in
       at_op site Q pc regs w line (code.Call d f first count) (b arguments) h
-      (subst (λ x. Runs site Q (λ m. Call (entry site pc regs l d f (taken regs first count) m)) w (b x)) e
-      (entered_runs call calls pc l d f (taken regs first count) regs w go words each))
+      (subst (λ x. Runs site Q (λ m. Call (entry site pc regs l d f (values_from regs first count) m)) w (b x)) e
+      (entered_runs call calls pc l d f (values_from regs first count) regs w go words each))
 
 module _ (site : Site) (rounds : ℕ) (call : (function line : ℕ) → List Value → Phrase Value) (calls : CallRuns site call) (k t to : ℕ) (base : List Value) (le : k ≤ t) where
   module _ (line pc n : ℕ) (regs : List Value) (env : State) (w : Log) (words : HasWords w) (matches : Matches k t base regs env) where
@@ -59,7 +59,7 @@ module _ (site : Site) (rounds : ℕ) (call : (function line : ℕ) → List Val
 
     pub call_plays : (f : ℕ) → Between site pc (op_code site.library (op.Call f) line t n pc) to → Plays (op.Call f) n
     call_plays f has =
-        call_runs site (Into site k t to base le) call calls pc line t f t n (taken regs t n) regs w (λ v. Gives env v) words has.0 refl
+        call_runs site (Into site k t to base le) call calls pc line t f t n (values_from regs t n) regs w (λ v. Gives env v) words has.0 refl
         (λ v w1 _. puts site k t to base le (pc + 1) regs env v w1 has.1 matches)
 
     pub pointer_plays : (kind c : ℕ) → n ≡ suc c → Between site pc (op_code site.library (op.CallPointer kind) line t n pc) to → Plays (op.CallPointer kind) (suc c)
@@ -69,10 +69,10 @@ module _ (site : Site) (rounds : ℕ) (call : (function line : ℕ) → List Val
         let p = value_at regs t in
         let named = function_named (kinds_of site.code) kind p l in
         let m : n - 1 ≡ c = omega (arith, e) in
-        at_op site Q pc regs w line (code.CallPointer t t (t + 1) (n - 1) kind) (run (apply (around_at site rounds call) (op.CallPointer kind) l (taken regs t (suc c)) env) w) has.0
-        (subst (λ x. Runs site Q (λ m. bind named (λ _ f. Call (entry site pc regs l t f (taken regs (t + 1) x) m))) w
-        (run (bind named (λ _ f. Call (in_state env (call f l (taken regs (t + 1) c))))) w)) (sym m)
-        (phrase_runs site Q named (λ m f. Call (entry site pc regs l t f (taken regs (t + 1) c) m)) (λ f. Call (in_state env (call f l (taken regs (t + 1) c)))) w words
+        at_op site Q pc regs w line (code.CallPointer t t (t + 1) (n - 1) kind) (run (apply (around_at site rounds call) (op.CallPointer kind) l (values_from regs t (suc c)) env) w) has.0
+        (subst (λ x. Runs site Q (λ m. bind named (λ _ f. Call (entry site pc regs l t f (values_from regs (t + 1) x) m))) w
+        (run (bind named (λ _ f. Call (in_state env (call f l (values_from regs (t + 1) c))))) w)) (sym m)
+        (phrase_runs site Q named (λ m f. Call (entry site pc regs l t f (values_from regs (t + 1) c) m)) (λ f. Call (in_state env (call f l (values_from regs (t + 1) c)))) w words
         (λ f w1 words1.
-        entered_runs site Q call calls pc l t f (taken regs (t + 1) c) regs w1 (λ v. Gives env v) words1
+        entered_runs site Q call calls pc l t f (values_from regs (t + 1) c) regs w1 (λ v. Gives env v) words1
         (λ v w2 _. puts site k t to base le (pc + 1) regs env v w2 has.1 matches))))

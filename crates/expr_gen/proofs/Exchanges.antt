@@ -125,9 +125,9 @@ module _ (site : Site) {S A : Type 0} (Q : Landing S A) where
 -- ---- the operation
 
 -- a choice by a truth value
-chosen : {S A : Type 0} (made : Bool) (a b : Phrase A) (go : A → Play S A) → bind (if made then a else b) (λ _ v. go v) ≡ if_zero (truth_of made) (bind b (λ _ v. go v)) (bind a (λ _ v. go v))
-chosen true a b go = refl
-chosen false a b go = refl
+choice_by_truth : {S A : Type 0} (made : Bool) (a b : Phrase A) (go : A → Play S A) → bind (if made then a else b) (λ _ v. go v) ≡ if_zero (truth_of made) (bind b (λ _ v. go v)) (bind a (λ _ v. go v))
+choice_by_truth true a b go = refl
+choice_by_truth false a b go = refl
 
 module _ (site : Site) (rounds : ℕ) (call : (function line : ℕ) → List Value → Phrase Value) (k t to : ℕ) (base : List Value) (le : k ≤ t) where
   module _ (line pc n : ℕ) (regs : List Value) (env : State) (w : Log) (words : HasWords w) (matches : Matches k t base regs env) where
@@ -206,7 +206,7 @@ module _ (site : Site) (rounds : ℕ) (call : (function line : ℕ) → List Val
         (value_at-put_other regs1 (t + 4) (t + 3) (integer found) n34 ∙ value_at-put_same regs (t + 3) expected)
         (binary_known site Q (i2 + 1) line (t + 5) (t + 4) (t + 5) Eq U64 (integer found) low (integer (truth_of made)) regs3 w2 play has.1.1.1.0
         (value_at-put_other regs2 (t + 5) (t + 4) low n45 ∙ value_at-put_same regs1 (t + 4) (integer found)) (value_at-put_same regs2 (t + 5) low) (test_arithmetic ty found l expected small)
-        (subst (λ x. Runs site Q (from site i4 regs4) w2 (run x w2)) (sym (chosen made (Gives tt (integer 1)) store give))
+        (subst (λ x. Runs site Q (from site i4 regs4) w2 (run x w2)) (sym (choice_by_truth made (Gives tt (integer 1)) store give))
         (branches site Q line (t + 5) i4 failed (truth_of made) regs4 w2 (bind store (λ _ x. give x)) (Gives env (integer 1))
         (subst (λ x. Has site i4 line (code.JumpZero (t + 5) x)) target has.1.1.1.1.0)
         (ap (λ (x : Value). x.number) (value_at-put_same regs3 (t + 5) (integer (truth_of made)))) (omega arith)
@@ -250,7 +250,7 @@ module _ (site : Site) (rounds : ℕ) (call : (function line : ℕ) → List Val
         let i2 = pc + 1 + 1 in
         let failed = i2 + 1 + 1 + 1 in
         let target : pc + 5 ≡ failed = omega arith in
-        subst (λ z. Runs site Q (from site i2 regs3) w2 (run z w2)) (sym (chosen x.is_made (Gives tt (integer 1)) store give))
+        subst (λ z. Runs site Q (from site i2 regs3) w2 (run z w2)) (sym (choice_by_truth x.is_made (Gives tt (integer 1)) store give))
         (branches site Q line (t + 5) i2 failed (truth_of x.is_made) regs3 w2 (bind store (λ _ y. give y)) (Gives env (integer 1))
         (subst (λ z. Has site i2 line (code.JumpZero (t + 5) z)) target has.1.1.0)
         (ap (λ (y : Value). y.number) (value_at-put_same regs2 (t + 5) (integer (made_number x.is_made)))) (omega arith)

@@ -15,7 +15,7 @@ use Rattle.tree_play.specs.Printing.{print}
 use Rattle.tree_play.specs.Expressions.{play_expr, play_operands, play_links, play_logic}
 use Rattle.expr_gen.specs.Operations.{at_line}
 use Rattle.expr_gen.specs.Code.{op_code, print_code, op_size, expr_size, operands_size, tests_size, logic_size, branch_code, expr_code, operands_code, links_code, logic_code}
-use Rattle.expr_gen.specs.Stretch.{Site, around_at, Between, Bounded, from, Comes, Landing, Runs, HasWords, CallRuns, taken, Matches, Arrived, InRegister, InRegisters}
+use Rattle.expr_gen.specs.Stretch.{Site, around_at, Between, Bounded, from, Comes, Landing, Runs, HasWords, CallRuns, values_from, Matches, Arrived, InRegister, InRegisters}
 use Rattle.expr_gen.specs.Correct.{CopiesAreCounted, OperandsAreCounted, LinksAreCounted, ExpressionsPlay}
 use Rattle.expr_gen.proofs.Between.{ends, front_at, back_at}
 use Rattle.expr_gen.proofs.Registers.{matches_self, matches_on}
@@ -97,11 +97,11 @@ module _ (site : Site) (rounds : ℕ) (call : (function line : ℕ) → List Val
   library = site.library
 
   -- the value is there already, and a jump leads to the end
-  jumped_to :
+  lands_after_jump :
       (t pc1 to : ℕ) (base : List Value) (env : State) (v : Value) (at : ℕ) (regs : List Value) (w : Log) →
       ((regs : List Value) (w : Log) → Comes (from site pc1 regs) w (from site to regs) w) → Arrived k t pc1 base (InRegister t) env v at regs →
       Runs site (Arrived k t to base (InRegister t)) (from site at regs) w (Goes env v w)
-  jumped_to t pc1 to base env v at regs w jump a =
+  lands_after_jump t pc1 to base env v at regs w jump a =
       subst (λ x. Runs site (Arrived k t to base (InRegister t)) (from site x regs) w (Goes env v w)) (sym a.here)
       (came site (Arrived k t to base (InRegister t)) (from site pc1 regs) w (from site to regs) w (Goes env v w) (jump regs w)
       (lands site (Arrived k t to base (InRegister t)) to regs w env v (record { here = refl; matches = a.matches; value = a.value })))
@@ -156,7 +156,7 @@ module _ (site : Site) (rounds : ℕ) (call : (function line : ℕ) → List Val
         (λ h. expr_runs test t pc (pc + expr_size test) base regs env w le fit.0 small.0 words h matches)
         (λ env1 regs1 w1 words1 h matches1. expr_runs one t p1 p2 base regs1 env1 w1 le fit.1.0 small.1.0 words1 h matches1)
         (λ env1 regs1 w1 words1 h matches1. expr_runs other t (p2 + 1) to base regs1 env1 w1 le fit.1.1 small.1.1 words1 h matches1)
-        (λ env1 v at regs1 w1 jump a. jumped_to t p2 to base env1 v at regs1 w1 jump a)
+        (λ env1 v at regs1 w1 jump a. lands_after_jump t p2 to base env1 v at regs1 w1 jump a)
     expr_runs (Print' line z operands pieces) t pc to base regs env w le fit small words has matches =
         let n = count_of operands in
         let p1 = pc + operands_size operands in
@@ -222,7 +222,7 @@ module _ (site : Site) (rounds : ℕ) (call : (function line : ℕ) → List Val
         (operands_run operands (t + 1) pc p1 regs regs env w (omega (arith, le)) fit.1.0 small.1.0 words (front_at site pc (operands_size operands) co (cc ++ cl) to l0 has)
         (matches_self k (t + 1) regs env matches.agree))
         (λ env1 vs regs1 w1 words1 matches1 value1.
-        let whole : taken regs1 t (suc n) ≡ v ∷ vs = ap (λ l. value_at regs1 t ∷ l) value1 ∙ ap (λ x. x ∷ vs) (matches1.kept t le (omega arith) ∙ value) in
+        let whole : values_from regs1 t (suc n) ≡ v ∷ vs = ap (λ l. value_at regs1 t ∷ l) value1 ∙ ap (λ x. x ∷ vs) (matches1.kept t le (omega arith) ∙ value) in
         value_runs site k t p2 base (InRegister t) P (from site p1 regs1) w1 (apply around o l (v ∷ vs) env1) rest words1
         (subst (λ vs. Runs site (Arrived k t p2 base (InRegister t)) (from site p1 regs1) w1 (run (apply around o l vs env1) w1)) whole
         (apply_runs site rounds call more calls outline here t p2 base le line p1 (suc n) regs1 env1 w1 words1
@@ -270,7 +270,7 @@ module _ (site : Site) (rounds : ℕ) (call : (function line : ℕ) → List Val
         (λ h. expr_runs e t pc (pc + expr_size e) base regs env w le fit.0 small.0 words h matches)
         (λ env1 regs1 w1 _ h matches1. constant_runs line t p1 p2 1 base regs1 env1 w1 le h matches1)
         (λ env1 regs1 w1 words1 h matches1. logic_run line false rest t (p2 + 1) to base regs1 env1 w1 le fit.1 small.1 words1 h matches1)
-        (λ env1 v at regs1 w1 jump a. jumped_to t p2 to base env1 v at regs1 w1 jump a)
+        (λ env1 v at regs1 w1 jump a. lands_after_jump t p2 to base env1 v at regs1 w1 jump a)
 
 pub expressions_play : ExpressionsPlay
 expressions_play site rounds call more calls outline here e t pc to base regs env w le fit small words has matches =

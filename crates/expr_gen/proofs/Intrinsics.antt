@@ -46,25 +46,25 @@ module _ (site : Site) (rounds : ℕ) (call : (function line : ℕ) → List Val
     a = value_at regs t
 
     -- t becomes what a phrase gives
-    given : (o : Op) (made : Phrase Value) → Has site pc line o → pc + 1 ≡ to →
+    phrase_plays : (o : Op) (made : Phrase Value) → Has site pc line o → pc + 1 ≡ to →
         ((m : ℕ) → does site pc regs line o m ≡ bind made (λ _ v. from site (pc + 1) (put_at regs t v) m)) →
         Runs site (Into site k t to base le) (from site pc regs) w (run (bind made (λ _ v. Gives env v)) w)
-    given o made h e same = last_gives site k t to base le pc line o made made regs env w words h e same refl matches
+    phrase_plays o made h e same = last_gives site k t to base le pc line o made made regs env w words h e same refl matches
 
     pub new_plays : Stands op.New → Plays op.New 1
-    new_plays has = given (code.New t t) (make_object a) has.0 has.1 (λ m. refl)
+    new_plays has = phrase_plays (code.New t t) (make_object a) has.0 has.1 (λ m. refl)
 
     pub size_plays : Stands op.Size → Plays op.Size 1
-    size_plays has = given (code.Size t t) (tell_size a (line_at site line)) has.0 has.1 (λ m. refl)
+    size_plays has = phrase_plays (code.Size t t) (tell_size a (line_at site line)) has.0 has.1 (λ m. refl)
 
     pub input_plays : Stands op.Input → Plays op.Input 0
-    input_plays has = given (code.Input t) take_in has.0 has.1 (λ m. refl)
+    input_plays has = phrase_plays (code.Input t) take_in has.0 has.1 (λ m. refl)
 
     pub join_plays : Stands op.Join → Plays op.Join 1
-    join_plays has = given (code.Join t t) (join_thread a) has.0 has.1 (λ m. refl)
+    join_plays has = phrase_plays (code.Join t t) (join_thread a) has.0 has.1 (λ m. refl)
 
     pub spawn_plays : Stands op.Spawn → Plays op.Spawn 2
-    spawn_plays has = given (code.Spawn t t (t + 1)) (start_thread (kinds_of site.code) a (value_at regs (t + 1)) (line_at site line)) has.0 has.1 (λ m. refl)
+    spawn_plays has = phrase_plays (code.Spawn t t (t + 1)) (start_thread (kinds_of site.code) a (value_at regs (t + 1)) (line_at site line)) has.0 has.1 (λ m. refl)
 
     pub free_plays : Stands op.Free → Plays op.Free 1
     free_plays has = last_does site k t to base le pc line (code.Free t) (free_object a (line_at site line)) regs env w words has.0 has.1 (λ m. refl) matches

@@ -8,7 +8,7 @@ use Rattle.ideal_machine.proofs.Values.{value_at-put_same}
 use Rattle.whole_code.specs.declared.op.Op.{Op}
 use Rattle.c_tree.specs.declared.operation.Operation.{Operation}
 use Rattle.tree_play.specs.Apply.{apply}
-use Rattle.expr_gen.specs.Stretch.{Site, around_at, from, Landing, Runs, HasWords, taken, Matches, Arrived, InRegister}
+use Rattle.expr_gen.specs.Stretch.{Site, around_at, from, Landing, Runs, HasWords, values_from, Matches, Arrived, InRegister}
 use Rattle.expr_gen.proofs.Registers.{matches_put}
 use Rattle.expr_gen.proofs.Stretch.{line_at, lands, does, Has}
 use Rattle.expr_gen.proofs.Instructions.{gives_runs, does_runs}
@@ -52,4 +52,4 @@ abbrev pub Applied :
     (site : Site) (rounds : ℕ) (call : (function line : ℕ) → List Value → Phrase Value) (k t to : ℕ) (base : List Value) (le : k ≤ t) → Operation → (line pc count : ℕ) →
     List Value → State → Log → Type 0
 Applied site rounds call k t to base le o line pc count regs env w =
-    Runs site (Into site k t to base le) (from site pc regs) w (run (apply (around_at site rounds call) o (line_at site line) (taken regs t count) env) w)
+    Runs site (Into site k t to base le) (from site pc regs) w (run (apply (around_at site rounds call) o (line_at site line) (values_from regs t count) env) w)

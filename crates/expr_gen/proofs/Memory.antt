@@ -47,14 +47,14 @@ module _ (site : Site) (rounds : ℕ) (call : (function line : ℕ) → List Val
         (puts site k t to base le (pc + 1 + 1) regs env v w1 has.1.1 matches))
 
     -- a change, of which the register r has the value that `told` says
-    changed :
+    change_plays :
         (lies : Access) (how : Change) (r : ℕ) (told : (old new : Value) → Value) →
         Between site pc (instructions site.library line (load_op lies (t + 2) t ∷ change_ops how (t + 1) (t + 3) (t + 2) (t + 1) ++ store_op lies t (t + 1) ∷ Move t r ∷ [])) to →
         ((old new : Value) (regs1 : List Value) → value_at regs1 (t + 2) ≡ old → value_at regs1 (t + 1) ≡ new → value_at regs1 r ≡ told old new) →
         Runs site (Into site k t to base le) (from site pc regs) w
         (run (bind (load site.start.base lies p (line_at site line)) (λ _ old. bind (new_value how old v (line_at site line)) (λ _ new.
         then_give env (store site.start.base lies p new (line_at site line)) (told old new)))) w)
-    changed lies how r told has tells =
+    change_plays lies how r told has tells =
         let l = line_at site line in
         let Q = Into site k t to base le in
         let go = λ (old new : Value). then_give env (store site.start.base lies p new l) (told old new) in
@@ -80,7 +80,7 @@ module _ (site : Site) (rounds : ℕ) (call : (function line : ℕ) → List Val
         (puts site k t to base le (pc1 + 1 + 1) regs2 env (told old new) w3 has2.1.1 still))))
 
     pub update_plays : (lies : Access) (how : Change) → Stands (op.Update lies how) → Plays (op.Update lies how) 2
-    update_plays lies how has = changed lies how (t + 1) (λ _ new. new) has (λ _ _ _ _ same. same)
+    update_plays lies how has = change_plays lies how (t + 1) (λ _ new. new) has (λ _ _ _ _ same. same)
 
     pub step_plays : (lies : Access) (how : Change) → Stands (op.Step lies how) → Plays (op.Step lies how) 2
-    step_plays lies how has = changed lies how (t + 2) (λ old _. old) has (λ _ _ _ same _. same)
+    step_plays lies how has = change_plays lies how (t + 2) (λ old _. old) has (λ _ _ _ same _. same)

@@ -22,18 +22,18 @@ use Rattle.tree_play.specs.Around.{Around, in_state}
 use Rattle.tree_play.specs.Printing.{put_piece, put_pieces, print}
 use Rattle.expr_gen.specs.Operations.{binary_op, pieces_ops}
 use Rattle.expr_gen.specs.Code.{instructions, print_code}
-use Rattle.expr_gen.specs.Stretch.{Site, around_at, Between, from, Landing, Runs, HasWords, CallRuns, taken, Matches, Arrived, InRegister}
+use Rattle.expr_gen.specs.Stretch.{Site, around_at, Between, from, Landing, Runs, HasWords, CallRuns, values_from, Matches, Arrived, InRegister}
 use Rattle.expr_gen.proofs.Registers.{matches_same}
 use Rattle.expr_gen.proofs.Stretch.{line_at, bind_bind, lands, bind_runs, Has}
 use Rattle.expr_gen.proofs.Instructions.{const_runs, move_runs, does_runs, binary_runs, store_runs}
 use Rattle.expr_gen.proofs.Rounds.{lock_runs}
 use Rattle.expr_gen.proofs.Calls.{call_runs}
 
-taken_at : (regs : List Value) (t n i : ℕ) → i < n → value_at (taken regs t n) i ≡ value_at regs (t + i)
-taken_at regs t zero i lt = absurd (omega (arith, lt))
-taken_at regs t (suc n) zero lt = let e : t ≡ t + 0 = omega arith in ap (value_at regs) e
-taken_at regs t (suc n) (suc i) lt =
-    let e : t + 1 + i ≡ t + suc i = omega arith in taken_at regs (t + 1) n i (omega (arith, lt)) ∙ ap (value_at regs) e
+value_from_at : (regs : List Value) (t n i : ℕ) → i < n → value_at (values_from regs t n) i ≡ value_at regs (t + i)
+value_from_at regs t zero i lt = absurd (omega (arith, lt))
+value_from_at regs t (suc n) zero lt = let e : t ≡ t + 0 = omega arith in ap (value_at regs) e
+value_from_at regs t (suc n) (suc i) lt =
+    let e : t + 1 + i ≡ t + suc i = omega arith in value_from_at regs (t + 1) n i (omega (arith, lt)) ∙ ap (value_at regs) e
 
 module _ (site : Site) (rounds : ℕ) (call : (function line : ℕ) → List Value → Phrase Value) (more : 0 < rounds) (calls : CallRuns site call) (k t to : ℕ) (base : List Value) (le : k ≤ t)
     (outline : Outline) where
@@ -49,7 +49,7 @@ module _ (site : Site) (rounds : ℕ) (call : (function line : ℕ) → List Val
     around = around_at site rounds call
 
     abbrev values : List Value
-    values = taken regs t n
+    values = values_from regs t n
 
     -- the register that counts
     abbrev c : ℕ
@@ -67,7 +67,7 @@ module _ (site : Site) (rounds : ℕ) (call : (function line : ℕ) → List Val
     below_put d v regs1 le below x lt = let ne : x ≢ d = omega (arith, lt, le) in value_at-put_other regs1 d x v ne ∙ below x lt
 
     operand_at : (i : ℕ) (regs1 : List Value) → i < n → Below regs1 → value_at regs1 (t + i) ≡ value_at values i
-    operand_at i regs1 lt below = below (t + i) (omega (arith, lt)) ∙ sym (taken_at regs t n i lt)
+    operand_at i regs1 lt below = below (t + i) (omega (arith, lt)) ∙ sym (value_from_at regs t n i lt)
 
     -- the bytes of a piece are in c + 1, and are counted
     add_runs :
@@ -174,9 +174,9 @@ module _ (site : Site) (rounds : ℕ) (call : (function line : ℕ) → List Val
         pieces_run pieces rest total (pc + 1 + 1 + 1 + 1) regs4 w2 go words2 (All-tail (PieceFits outline n) (piece.Put f operand (Some radix)) pieces fits) has.1.1.1.1 ec2 below2 each)))))
 
     -- the lock becomes 0, and the count comes into t
-    released : 0 < n → Matches k t base regs env → (lock : Value) → value_at regs t ≡ lock →
+    release_runs : 0 < n → Matches k t base regs env → (lock : Value) → value_at regs t ≡ lock →
         Continues (code.Const (c + 1) 0 ∷ code.StoreInt t (c + 1) (type_number I32) ∷ code.Move t c ∷ []) (λ total. bind (store_int site.start.base I32 lock (integer 0) l) (λ _ _. Gives tt total))
-    released some matches lock el total pc regs1 w words has ec below =
+    release_runs some matches lock el total pc regs1 w words has ec below =
         let regs2 = put_at regs1 (c + 1) (integer 0) in
         let ne : c ≢ c + 1 = omega arith in
         let nt : t ≢ c + 1 = omega arith in
@@ -200,7 +200,7 @@ module _ (site : Site) (rounds : ℕ) (call : (function line : ℕ) → List Val
   pub print_runs :
       (pieces : List Piece) (line pc n : ℕ) (regs : List Value) (env : State) (w : Log) → HasWords w → Matches k t base regs env → 0 < n → All (PieceFits outline n) pieces →
       Between site pc (print_code site.library pieces line t n) to →
-      Runs site (Arrived k t to base (InRegister t)) (from site pc regs) w (run (in_state env (print (around_at site rounds call) pieces (line_at site line) (taken regs t n))) w)
+      Runs site (Arrived k t to base (InRegister t)) (from site pc regs) w (run (in_state env (print (around_at site rounds call) pieces (line_at site line) (values_from regs t n))) w)
   print_runs pieces line pc zero regs env w words matches some fits has = absurd (omega (arith, some))
   print_runs pieces line pc (suc m) regs env w words matches some fits has =
       let n = suc m in
@@ -209,12 +209,12 @@ module _ (site : Site) (rounds : ℕ) (call : (function line : ℕ) → List Val
       let around = around_at site rounds call in
       let Q = P line n regs env in
       let release = λ (total : Value). bind (store_int site.start.base I32 lock (integer 0) l) (λ _ _. Gives tt total) in
-      let counts = bind (put_pieces around (taken regs t n) l pieces (integer 0)) (λ _ total. release total) in
+      let counts = bind (put_pieces around (values_from regs t n) l pieces (integer 0)) (λ _ total. release total) in
       let rest = code.Const (t + n + 1) 0 ∷ code.StoreInt t (t + n + 1) (type_number I32) ∷ code.Move t (t + n) ∷ [] in
-      bind_runs site Q (Arrived k t to base (InRegister t)) (from site pc regs) w (print around pieces l (taken regs t n)) (λ _ v. Gives env v) words
+      bind_runs site Q (Arrived k t to base (InRegister t)) (from site pc regs) w (print around pieces l (values_from regs t n)) (λ _ v. Gives env v) words
       (lock_runs site Q rounds more pc line t lock regs w counts words has.0 refl
       (λ w1 words1.
       const_runs site Q (pc + 1) line (t + n) 0 regs w1 (run counts w1) has.1.0
       (pieces_run line n regs env pieces rest (integer 0) (pc + 1 + 1) (put_at regs (t + n) (integer 0)) w1 release words1 fits has.1.1 (value_at-put_same regs (t + n) (integer 0))
-      (below_put line n regs env (t + n) (integer 0) regs (omega arith) (λ x _. refl)) (released line n regs env some matches lock refl))))
+      (below_put line n regs env (t + n) (integer 0) regs (omega arith) (λ x _. refl)) (release_runs line n regs env some matches lock refl))))
       (λ _ v at after w1 _ h. lands site (Arrived k t to base (InRegister t)) at after w1 env v h)

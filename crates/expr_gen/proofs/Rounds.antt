@@ -77,13 +77,13 @@ module _ (site : Site) {S A : Type 0} (Q : Landing S A) where
 
   -- ---- exchanges of pairs
 
-  abbrev exchanged : (d made : ℕ) → List Value → PairExchange → List Value
-  exchanged d made regs x = put_at (put_at regs d x.found) made (integer (made_number x.is_made))
+  abbrev registers_after : (d made : ℕ) → List Value → PairExchange → List Value
+  registers_after d made regs x = put_at (put_at regs d x.found) made (integer (made_number x.is_made))
 
   exchange_here :
       (rounds : ℕ) → 0 < rounds → (pc line d made a e n : ℕ) (regs : List Value) (w : Log) (go : PairExchange → Play S A) → HasWords w →
       Has site pc line (BoxCas d made a e n) →
-      ((x : PairExchange) (w1 : Log) → HasWords w1 → Runs site Q (from site (pc + 1) (exchanged d made regs x)) w1 (run (go x) w1)) →
+      ((x : PairExchange) (w1 : Log) → HasWords w1 → Runs site Q (from site (pc + 1) (registers_after d made regs x)) w1 (run (go x) w1)) →
       Runs site Q (from site pc regs) w (run (bind (exchange_pair site.start.base rounds (value_at regs a) (value_at regs e) (value_at regs n) (line_at site line)) (λ _ x. go x)) w)
   exchange_here rounds more pc line d made a e n regs w go words h each =
       let l = line_at site line in
@@ -99,13 +99,13 @@ module _ (site : Site) {S A : Type 0} (Q : Landing S A) where
       (phrase_runs site Q check (λ m access. exchanges (next m) at d made expected desired access) (λ access. bind (retry rounds (exchange_round access expected desired)) (λ _ x. go x)) w words
       (λ access w1 words1.
       rounds_run (exchange_round access expected desired) (granted_at pc regs access)
-      (λ m x. found_or_again (next m) at access x (λ x. from site (pc + 1) (exchanged d made regs x) m)) go
+      (λ m x. found_or_again (next m) at access x (λ x. from site (pc + 1) (registers_after d made regs x) m)) go
       (λ m. granted_step pc line (BoxCas d made a e n) regs access h m) (λ m. refl) refl (λ x w2 words2. each x w2 words2) rounds w1 more words1)))
 
   pub exchange_runs :
       (rounds : ℕ) → 0 < rounds → (pc line d made a e n : ℕ) (p expected desired : Value) (regs : List Value) (w : Log) (go : PairExchange → Play S A) → HasWords w →
       Has site pc line (BoxCas d made a e n) → value_at regs a ≡ p → value_at regs e ≡ expected → value_at regs n ≡ desired →
-      ((x : PairExchange) (w1 : Log) → HasWords w1 → Runs site Q (from site (pc + 1) (exchanged d made regs x)) w1 (run (go x) w1)) →
+      ((x : PairExchange) (w1 : Log) → HasWords w1 → Runs site Q (from site (pc + 1) (registers_after d made regs x)) w1 (run (go x) w1)) →
       Runs site Q (from site pc regs) w (run (bind (exchange_pair site.start.base rounds p expected desired (line_at site line)) (λ _ x. go x)) w)
   exchange_runs rounds more pc line d made a e n p expected desired regs w go words h ep ee en each =
       let R = λ (x y z : Value). Runs site Q (from site pc regs) w (run (bind (exchange_pair site.start.base rounds x y z (line_at site line)) (λ _ x. go x)) w) in

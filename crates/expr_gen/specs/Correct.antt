@@ -22,7 +22,7 @@ use Rattle.tree_play.specs.Around.{line_in}
 use Rattle.tree_play.specs.Apply.{apply}
 use Rattle.tree_play.specs.Expressions.{play_expr}
 use Rattle.expr_gen.specs.Code.{op_code, expr_code}
-use Rattle.expr_gen.specs.Stretch.{Site, around_at, Between, Runs, from, HasWords, CallRuns, taken, Matches, Arrived, InRegister}
+use Rattle.expr_gen.specs.Stretch.{Site, around_at, Between, Runs, from, HasWords, CallRuns, values_from, Matches, Arrived, InRegister}
 
 -- a copy's units are counted in a word, as the tree's own type says
 abbrev pub IsCounted : Operation → Type 0
@@ -54,7 +54,7 @@ OperationsPlay =
     here.locals ≤ t → OpFits outline here o n → IsCounted o → HasWords w →
     Between site from_index (op_code site.library o line t n from_index) to → Matches here.locals t base registers env →
     Runs site (Arrived here.locals t to base (InRegister t)) (from site from_index registers) w
-    (run (apply (around_at site rounds call) o (line_in (around_at site rounds call) line) (taken registers t n) env) w)
+    (run (apply (around_at site rounds call) o (line_in (around_at site rounds call) line) (values_from registers t n) env) w)
 
 -- the code of every expression plays it, wherever it stands and whatever it is answered
 abbrev pub ExpressionsPlay : Type 0

@@ -118,8 +118,8 @@ CallRuns site call =
 -- ---- registers beside locals
 
 -- so many registers, from a first one on
-abbrev pub taken : List Value → (first count : ℕ) → List Value
-taken registers first count = map (value_at registers) (numbers_from first count)
+abbrev pub values_from : List Value → (first count : ℕ) → List Value
+values_from registers first count = map (value_at registers) (numbers_from first count)
 
 -- the first k registers have the values of the locals
 pub record Agree (k : ℕ) (registers env : List Value) : Type 0 where
@@ -141,4 +141,4 @@ abbrev pub InRegister : ℕ → List Value → Value → Type 0
 InRegister t registers v = value_at registers t ≡ v
 
 abbrev pub InRegisters : (first count : ℕ) → List Value → List Value → Type 0
-InRegisters first count registers values = taken registers first count ≡ values
+InRegisters first count registers values = values_from registers first count ≡ values
