@@ -268,32 +268,20 @@ impl<F: Fn(Global, &mut Cursor<'_>, u32, What) -> Result<Opened, Fault>> Grammar
         Ok(links)
     }
 
+    /// A binary expression of a level and below, from the tightest on; the lowest level is a cast.
     #[cycle(binary)]
-    fn level_over(&self, cursor: &mut Cursor<'_>, tighter: u32) -> Result<Expr, Fault>
-        requires { Nests self.now.room (F.pre self.now.inner) (F.post self.now.inner) }
-        ensures { Reads (spec.level (spec.operators_over tighter)
-            (spec.binary tighter (inner self.now.room)))
-            cursor.old result cursor.new }
-    {
-        let start = cursor.start();
-        let first = self.binary(cursor, tighter)?;
-        let links = self.links(cursor, tighter)?;
-        let span = cursor.span(start);
-        Ok(chain(self.alloc, span, first, links)?)
-    }
-
-    /// A binary expression of a level and below; the lowest level is a cast.
-    #[cycle(binary)]
-    #[tactic(auto, using(crate::proofs::Binary::binary_over))]
     fn binary(&self, cursor: &mut Cursor<'_>, level: u32) -> Result<Expr, Fault>
         requires { Nests self.now.room (F.pre self.now.inner) (F.post self.now.inner) }
         ensures { Reads (spec.binary level (inner self.now.room)) cursor.old result cursor.new }
     {
-        if level == 0 {
-            self.cast(cursor)
-        } else {
-            self.level_over(cursor, level - 1)
+        let start = cursor.start();
+        let mut expr = self.cast(cursor)?;
+        'levels: for tighter in 0..level {
+            let links = self.links(cursor, tighter)?;
+            let span = cursor.span(start);
+            expr = chain(self.alloc, span, expr, links)?;
         }
+        Ok(expr)
     }
 
     /// `? expression : conditional`, or nothing.
