@@ -1,0 +1,9 @@
+mod Blocks
+mod Kept
+mod Standing
+mod Passing
+mod Usable
+mod Calls
+mod Within
+mod Turns
+mod Near

@@ -1,0 +1,32 @@
+-- An answer is taken in by the instruction where the thread stands.
+use Rattle.std.proofs.Common.{Option, sym, ap, ◌∙◌, subst}
+use Rattle.whole_code.specs.declared.op.Instruction.{Instruction}
+use Rattle.whole_thread.specs.declared.stage.Want.{Want}
+use Rattle.whole_thread.specs.declared.stage.Stage.{Stage}
+use Rattle.whole_thread.specs.Standing.{trap_line}
+use Rattle.whole_thread.specs.Thread.{Thread}
+use Rattle.whole_thread.specs.Answers.{answer_at, answer_by}
+use Rattle.thread_steps.specs.Short.{IsNear}
+use Rattle.thread_steps.specs.Stands.{StandsIn}
+use Rattle.thread_steps.proofs.Turns.{want_here}
+use Rattle.thread_steps.proofs.Standing.{answer_stands}
+use Rattle.thread_steps.proofs.thread.CodeThread.answer.Goals as goal
+
+pub answer_at-requires-clause-near : goal.answer_at-requires-clause-near
+answer_at-requires-clause-near c =
+    let i = c.instruction-i.result.now in
+    subst (λ (w : Want). IsNear w c.args.answer)
+    (want_here c.args.code.now c.args.self.now i c.instruction-i.ensures.here c.stage_here-stage.result c.stage_here-stage.ensures.stage) c.requires.near
+
+pub returns-clause-exact : goal.returns-clause-exact
+returns-clause-exact c =
+    let now = c.args.self.now in
+    let i = c.instruction-i.result.now in
+    c.answer_at.ensures
+    ∙ ap (λ (s : Stage). answer_at now (trap_line now.at.frame i) i.op s c.args.answer) c.stage_here-stage.ensures.stage
+    ∙ ap (λ (o : Option Instruction). answer_by now o c.args.answer) (sym c.instruction-i.ensures.here)
+
+pub returns-clause-stands : goal.returns-clause-stands
+returns-clause-stands c =
+    subst (λ (t : Thread). StandsIn c.args.code.now t) (sym (returns-clause-exact c))
+    (answer_stands c.args.code.now c.args.self.now c.args.answer c.functions-functions.ensures.well_formed c.requires.stands)

@@ -1,0 +1,6 @@
+pub mod Blocks
+pub mod Stands
+pub mod Usable
+pub mod Turns
+pub mod Passing
+pub mod Short

@@ -1,0 +1,43 @@
+-- One turn of a thread: it carries out its instruction where it wants to, and else it stays.
+use Rattle.std.specs.Prelude.{ℕ, ◌==◌, Bool, true, false, List, Option, Some, None, length, slice_index, if◌then◌else◌}
+use Rattle.whole_code.specs.declared.op.Op.{Op}
+use Rattle.whole_code.specs.declared.op.Instruction.{Instruction}
+use Rattle.whole_code.specs.Plain.{PlainCode}
+use Rattle.whole_thread.specs.declared.stage.Want.{Want}
+use Rattle.whole_thread.specs.declared.stage.Want.TheVariants as want
+use Rattle.whole_thread.specs.declared.stage.Stage.{Stage}
+use Rattle.whole_thread.specs.declared.stage.Stage.TheVariants as stage
+use Rattle.whole_thread.specs.Standing.{trap_line}
+use Rattle.whole_thread.specs.Thread.{Thread, step_by, thread_after_step}
+use Rattle.thread_steps.specs.Usable.{Room}
+
+-- an instruction is to be carried out on registers
+abbrev pub is_instruction : Want → Bool
+is_instruction want.Instruction = true
+is_instruction w = false
+
+-- a thread stands before its instruction, and in no further round of it
+abbrev pub is_before : Stage → Bool
+is_before stage.Before = true
+is_before s = false
+
+-- the place of each static object
+abbrev pub place_in : List ℕ → ℕ → ℕ
+place_in places n = slice_index places n
+
+-- a thread after its instruction, if it is carried out
+abbrev pub turn_by : Bool → PlainCode → (places : List ℕ) → Thread → Instruction → Op → Thread
+turn_by done code places thread i o = if done then step_by code (place_in places) thread (trap_line thread.at.frame i) o else thread
+
+abbrev pub thread_after_turn : Bool → PlainCode → (places : List ℕ) → Thread → Thread
+thread_after_turn done code places thread = if done then thread_after_step code (place_in places) thread else thread
+
+-- what an instruction of a thread may use
+abbrev pub room_of : PlainCode → Thread → Room
+room_of code thread =
+    record { registers = length thread.at.frame.registers; functions = length code.functions; statics = length code.statics }
+
+-- a function's type, if there is such a function, is this one
+abbrev pub is_of_kind : (kind : ℕ) → Option ℕ → Bool
+is_of_kind kind None = false
+is_of_kind kind (Some k) = k == kind

@@ -1,0 +1,182 @@
+//! A thread and its block of registers.
+
+ghost use Rattle.std.specs.Prelude.{◌≡◌, ◌+◌, ◌<◌, ◌^◌, length, IfOk, Some};
+ghost use Rattle.whole_thread.specs.Standing.{register, with_register, at_index};
+ghost use Rattle.whole_thread.specs.Thread.{goes_on, gets, at_stage, before};
+ghost use Rattle.whole_thread.specs.Thread.{here};
+ghost use Rattle.thread_steps.specs.Short.{IsShortStage};
+ghost use Rattle.thread_steps.specs.Stands.{StandsIn};
+ghost use Rattle.thread_steps.specs.Turns.{room_of};
+ghost use Rattle.thread_steps.specs.Usable.{IsUsable};
+ghost use Rattle.whole_thread.specs.declared.stage.Stage.TheVariants as stage;
+ghost use Rattle.whole_thread.specs.declared.stage.Halt.TheVariants as halt;
+
+mod answer;
+mod begin;
+mod calls;
+mod reply;
+mod step;
+mod want;
+
+use crate::activation::Activation;
+use ideal_machine::{Access, Half, Value};
+use std::alloc::{AllocError, Global};
+use std::marker::Model;
+use whole_code::{Code, Instruction};
+use whole_thread::{Halt, Stage};
+
+/// What each register is when a function is entered.
+const ZERO: Value = Value {
+    number: 0,
+    half: Half::Nothing,
+};
+
+/// What stands where no activation waits.
+const NONE: Activation = Activation {
+    function: 0,
+    index: 0,
+    called_at: None,
+    values: 0,
+    result: 0,
+};
+
+/// A thread: its activations, the registers of all of them, and where it is in the instruction at
+/// hand. No call but `new` takes memory. The code that is given to a call is that of the last `begin`.
+#[derive(Drop)]
+pub struct CodeThread {
+    registers: Vec<Value>,
+    callers: Vec<Activation>,
+    depth: usize,
+    base: usize,
+    function: u32,
+    index: usize,
+    called_at: Option<u32>,
+    values: u32,
+    granted: Option<Access>,
+    stage: Stage,
+    id: u64,
+    main: bool,
+}
+
+impl Model for CodeThread {
+    ghost use Rattle.std.specs.Prelude.{◌≡◌, ◌*◌, ◌<◌, length};
+    ghost use Rattle.filc_num.specs.declared.registers.TheConstants.{REGISTERS};
+    ghost use Rattle.whole_thread.specs.Thread.{Thread};
+    ghost use Rattle.thread_steps.specs.Blocks.{frame_registers, callers_of};
+    ghost use Rattle.thread_steps.specs.Short.{IsShortRound, IsShortStage};
+
+    ghost Value = { Thread };
+
+    ghost view = { λ t. record {
+      id = t.id;
+      main = t.main;
+      at = record {
+        callers = callers_of t.callers.items t.registers.items t.depth;
+        frame = record {
+          function = t.function;
+          index = t.index;
+          called_at = t.called_at;
+          registers = frame_registers t.registers.items t.depth t.values;
+        };
+        granted = t.granted;
+      };
+      stage = t.stage;
+    } };
+
+    ghost invariant = { λ t. (length t.registers.items ≡ 262144) × (length t.callers.items ≡ 1024)
+        × (t.depth < 1024) × (t.base ≡ REGISTERS * t.depth)
+        × IsShortRound t.granted × IsShortStage t.stage };
+}
+
+impl CodeThread {
+    /// A thread that has ended, with the room of all its frames.
+    pub fn new(alloc: Global) -> Result<CodeThread, AllocError>
+        ensures stopped { IfOk result (λ thread. thread.stage ≡ stage.Over (halt.Returned 0)) }
+    {
+        let mut registers = Vec::with_capacity(alloc, 262_144)?;
+        for _register in 0..262_144_usize {
+            registers.push(ZERO)?;
+        }
+        let mut callers = Vec::with_capacity(alloc, 1024)?;
+        for _caller in 0..1024_usize {
+            callers.push(NONE)?;
+        }
+        Ok(CodeThread {
+            registers,
+            callers,
+            depth: 0,
+            base: 0,
+            function: 0,
+            index: 0,
+            called_at: None,
+            values: 0,
+            granted: None,
+            stage: Stage::Over(Halt::Returned(0)),
+            id: 0,
+            main: false,
+        })
+    }
+
+    /// The instruction at which the thread stands.
+    fn instruction<'a>(&self, code: &'a Code) -> &'a Instruction
+        requires { StandsIn code.now self.now }
+        ensures here { here code.now self.now ≡ Some result.now }
+        ensures usable { IsUsable (room_of code.now self.now) result.now.op }
+        ensures index { self.now.at.frame.index + 1 < 2 ^ 64 }
+    {
+        &code.function(self.function).instructions[self.index]
+    }
+
+    /// A register of the innermost activation.
+    fn value_of(&self, r: u32) -> Value
+        requires { r < length self.now.at.frame.registers }
+        ensures { result ≡ register self.now.at r }
+    {
+        self.registers[self.base + r as usize]
+    }
+
+    /// Writes a register of the innermost activation.
+    fn put(&mut self, d: u32, value: Value)
+        requires { d < length self.old.at.frame.registers }
+        ensures { self.new ≡ record self.old { at = with_register self.old.at d value } }
+    {
+        self.registers[self.base + d as usize] = value;
+    }
+
+    /// Goes on at the next instruction.
+    fn next(&mut self)
+        requires { self.old.at.frame.index + 1 < 2 ^ 64 }
+        ensures { self.new ≡ goes_on self.old }
+    {
+        self.index += 1;
+        self.granted = None;
+        self.stage = Stage::Before;
+    }
+
+    /// Writes a register, and goes on at the next instruction.
+    fn set(&mut self, d: u32, value: Value)
+        requires register { d < length self.old.at.frame.registers }
+        requires index { self.old.at.frame.index + 1 < 2 ^ 64 }
+        ensures { self.new ≡ gets self.old d value }
+    {
+        self.put(d, value);
+        self.next();
+    }
+
+    /// Goes on at another instruction of the function.
+    fn jump(&mut self, target: u32)
+        ensures { self.new ≡ before self.old (at_index self.old.at target) }
+    {
+        self.index = target as usize;
+        self.granted = None;
+        self.stage = Stage::Before;
+    }
+
+    /// Goes to another stage of its instruction.
+    fn stand(&mut self, stage: Stage)
+        requires { IsShortStage stage }
+        ensures { self.new ≡ at_stage self.old stage }
+    {
+        self.stage = stage;
+    }
+}
