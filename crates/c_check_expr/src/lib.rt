@@ -6,11 +6,13 @@
 //! `specs/Contexts.antt` has the conditions, constants and results of statements and declarations.
 #![tactic(auto)]
 
+mod folding;
 mod kinds;
 mod known;
 pub mod laws;
 
 pub use c_syntax::Expr as Tree;
 pub use c_tree::Expr;
+pub use folding::{choice, convert_known, logic};
 pub use kinds::{common_kind, promote, rank};
 pub use known::Known;
