@@ -14,21 +14,21 @@ use Rattle.c_front.specs.declared.fault.FrontFault.{FrontFault}
 use Rattle.c_front.specs.declared.fault.FrontFault.TheVariants as front
 
 -- the file is refused for this reason, at this line
-abbrev pub refused : RefusalKind → ℕ → FrontFault
-refused kind line = front.Refused (record { kind = kind; line = line })
+abbrev pub refusal : RefusalKind → ℕ → FrontFault
+refusal kind line = front.Refused (record { kind = kind; line = line })
 
 abbrev pub of_lexer : LexFault → FrontFault
-of_lexer (lexer.Bad line) = refused kind.Bad line
-of_lexer (lexer.Unclosed line) = refused kind.Unclosed line
-of_lexer (lexer.Literal line) = refused kind.Literal line
-of_lexer lexer.TooLong = refused kind.TooLong 1
+of_lexer (lexer.Bad line) = refusal kind.Bad line
+of_lexer (lexer.Unclosed line) = refusal kind.Unclosed line
+of_lexer (lexer.Literal line) = refusal kind.Literal line
+of_lexer lexer.TooLong = refusal kind.TooLong 1
 of_lexer lexer.NoMemory = front.NoMemory
 
 abbrev pub of_preprocessor : PreFault → FrontFault
-of_preprocessor (preprocessor.Directive line) = refused kind.Directive line
-of_preprocessor (preprocessor.Header line) = refused kind.Header line
-of_preprocessor (preprocessor.Unbalanced line) = refused kind.Unbalanced line
-of_preprocessor (preprocessor.Expanded line) = refused kind.Expanded line
+of_preprocessor (preprocessor.Directive line) = refusal kind.Directive line
+of_preprocessor (preprocessor.Header line) = refusal kind.Header line
+of_preprocessor (preprocessor.Unbalanced line) = refusal kind.Unbalanced line
+of_preprocessor (preprocessor.Expanded line) = refusal kind.Expanded line
 of_preprocessor preprocessor.NoMemory = front.NoMemory
 
 -- a list of tokens, or why there is none

@@ -16,7 +16,7 @@ pub enum FrontFault {
     NoMemory,
 }
 
-fn refused(kind: RefusalKind, line: u32) -> FrontFault
+fn refusal(kind: RefusalKind, line: u32) -> FrontFault
     ensures { result ≡ FrontFault.Refused (record { kind = kind; line = line }) }
 {
     FrontFault::Refused(Refusal { kind, line })
@@ -27,10 +27,10 @@ impl From<LexFault> for FrontFault {
 
     fn from(fault: LexFault) -> FrontFault {
         match fault {
-            LexFault::Bad(line) => refused(RefusalKind::Bad, line),
-            LexFault::Unclosed(line) => refused(RefusalKind::Unclosed, line),
-            LexFault::Literal(line) => refused(RefusalKind::Literal, line),
-            LexFault::TooLong => refused(RefusalKind::TooLong, 1),
+            LexFault::Bad(line) => refusal(RefusalKind::Bad, line),
+            LexFault::Unclosed(line) => refusal(RefusalKind::Unclosed, line),
+            LexFault::Literal(line) => refusal(RefusalKind::Literal, line),
+            LexFault::TooLong => refusal(RefusalKind::TooLong, 1),
             LexFault::NoMemory => FrontFault::NoMemory,
         }
     }
@@ -41,10 +41,10 @@ impl From<PreFault> for FrontFault {
 
     fn from(fault: PreFault) -> FrontFault {
         match fault {
-            PreFault::Directive(line) => refused(RefusalKind::Directive, line),
-            PreFault::Header(line) => refused(RefusalKind::Header, line),
-            PreFault::Unbalanced(line) => refused(RefusalKind::Unbalanced, line),
-            PreFault::Expanded(line) => refused(RefusalKind::Expanded, line),
+            PreFault::Directive(line) => refusal(RefusalKind::Directive, line),
+            PreFault::Header(line) => refusal(RefusalKind::Header, line),
+            PreFault::Unbalanced(line) => refusal(RefusalKind::Unbalanced, line),
+            PreFault::Expanded(line) => refusal(RefusalKind::Expanded, line),
             PreFault::NoMemory => FrontFault::NoMemory,
         }
     }

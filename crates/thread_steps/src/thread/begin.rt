@@ -13,7 +13,7 @@ use whole_code::Code;
 use whole_thread::Stage;
 
 /// What the register k of a thread's first function begins with: the argument, or zero.
-fn begun(argument: Value, given: u32, k: u32) -> Value
+fn first_value(argument: Value, given: u32, k: u32) -> Value
     ensures { result ≡ begun_at argument given k }
 {
     if k < given { argument } else { ZERO }
@@ -28,7 +28,7 @@ fn start(registers: &mut Vec<Value>, argument: Value, given: u32, values: u32)
         value_at registers.new.items k ≡ begun_at argument given k }
 {
     for k in 0..values {
-        registers[k as usize] = begun(argument, given, k);
+        registers[k as usize] = first_value(argument, given, k);
     }
 }
 

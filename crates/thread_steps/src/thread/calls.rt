@@ -28,7 +28,7 @@ pub(super) fn fewer(a: u32, b: u32) -> u32
 }
 
 /// What the register k of a function that is called begins with: an argument, or zero.
-fn passed(registers: &Vec<Value>, from: usize, given: u32, k: u32) -> Value
+fn argument_or_zero(registers: &Vec<Value>, from: usize, given: u32, k: u32) -> Value
     requires { k < given → from + k < length registers.now.items }
     ensures { result ≡ passed_at registers.now.items from given k }
 {
@@ -53,7 +53,7 @@ fn fill(registers: &mut Vec<Value>, base: usize, from: usize, given: u32, values
         passed_at registers.old.items from given k }
 {
     for k in 0..values {
-        let value = passed(registers, from, given, k);
+        let value = argument_or_zero(registers, from, given, k);
         registers[base + 256 + k as usize] = value;
     }
 }

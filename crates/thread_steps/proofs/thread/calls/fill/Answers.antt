@@ -13,7 +13,7 @@ loop-k-preserved c =
     let old = c.args.registers.now.items in
     let k = c.loop-k.k in
     let n = c.args.base + 256 + k in
-    let v = c.passed-value.result in
+    let v = c.argument_or_zero-value.result in
     let inv = c.loop-k.invariant in
     let within : n < length rs = omega (arith, c.requires.base, c.requires.values, c.loop-k-test.true, inv.long) in
     record {
@@ -21,6 +21,6 @@ loop-k-preserved c =
       below = λ m lt. value_set_other rs n m v (λ e. omega (arith, e, lt)) ∙ inv.below m lt;
       filled = all_below (λ (m : ℕ). value_at (slice_set rs n v) (c.args.base + 256 + m) ≡ passed_at old c.args.from c.args.given m) k
           (λ m lt. value_set_other rs n (c.args.base + 256 + m) v (λ e. omega (arith, e, lt)) ∙ inv.filled m lt)
-          (value_set_same rs n v within ∙ c.passed-value.ensures
+          (value_set_same rs n v within ∙ c.argument_or_zero-value.ensures
           ∙ passed_same rs old c.args.from c.args.given k (λ lt. inv.below (c.args.from + k) (c.requires.arguments k lt)));
     }

@@ -4,7 +4,7 @@ use Rattle.std.proofs.lemmas.List.{get_or_read}
 use Rattle.ideal_machine.specs.Values.{zero_value, value_at}
 use Rattle.thread_steps.proofs.Blocks.{value_at_get}
 use Rattle.thread_steps.proofs.Passing.{lt_true}
-use Rattle.thread_steps.proofs.thread.calls.passed.Goals as goal
+use Rattle.thread_steps.proofs.thread.calls.argument_or_zero.Goals as goal
 
 pub returns-then-k-given : goal.returns-then-k-given
 returns-then-k-given c =
