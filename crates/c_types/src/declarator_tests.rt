@@ -3,6 +3,7 @@
 use super::*;
 use bitflags::Flags;
 use filc_num::CIntType;
+use std::alloc::AllocError;
 use std::test::Fail;
 
 /// A part without qualifiers.
@@ -38,7 +39,7 @@ fn outcome(
     derivations: &[Derivation],
 ) -> Result<Option<Entry>, DeriveFault> {
     let mut types = Types::new(rt.alloc());
-    let none = types.parameter_list(&[]);
+    let none = list(&mut types, &[]);
     let number = match base {
         CType::Structure(..) | CType::Union(..) | CType::Enumeration(_) => {
             types.declare(Tag::Structure)
@@ -50,7 +51,10 @@ fn outcome(
         return Err(DeriveFault::NoMemory);
     };
     let base = plain(number);
-    if !types.is_part(base) || !types.knows_lists_of(derivations) {
+    if !types.is_part(base) {
+        return Err(DeriveFault::NoMemory);
+    }
+    if !types.knows_lists_of(derivations) {
         return Err(DeriveFault::NoMemory);
     }
     let part = types.derive_all(base, derivations)?;
@@ -168,17 +172,20 @@ fn base(types: &mut Types, kind: CIntType) -> Result<Part, Fail> {
 }
 
 /// The number of a list of parameters, by the numbers of their types.
-fn list(types: &mut Types, numbers: &[u32]) -> Result<u32, Fail> {
+fn list(types: &mut Types, numbers: &[u32]) -> Result<u32, AllocError> {
     if !types.are_types(numbers) {
-        return Err("a parameter is no type".into());
+        return Err(AllocError);
     }
-    Ok(types.parameter_list(numbers)?)
+    types.parameter_list(numbers)
 }
 
 /// What derivations make of a part.
 fn made(types: &mut Types, base: Part, derivations: &[Derivation]) -> Result<Part, Fail> {
-    if !types.is_part(base) || !types.knows_lists_of(derivations) {
-        return Err("the base or a list isn't there".into());
+    if !types.is_part(base) {
+        return Err("the base isn't there".into());
+    }
+    if !types.knows_lists_of(derivations) {
+        return Err("a list isn't there".into());
     }
     Ok(types.derive_all(base, derivations)?)
 }

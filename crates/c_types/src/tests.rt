@@ -138,12 +138,18 @@ fn each_type_has_one_number(rt: HostRuntime) -> Result<(), Fail> {
         if !types.is_part(int) {
             return Err("int".into());
         }
+        if !types.knows_list_of(pointer) {
+            return Err("a list".into());
+        }
         assert_eq!(rt; types.derive(int, pointer)?.number, 1);
     }
     assert_eq!(rt; types.get(0), Some(Entry::OfType(INT)));
     assert_eq!(rt; types.get(1), Some(Entry::OfType(CType::Pointer(int))));
     assert_eq!(rt; types.get(2), None);
     assert_eq!(rt; types.void_type()?, 2);
+    if !types.are_types(&[]) {
+        return Err("no types".into());
+    }
     let none = types.parameter_list(&[])?;
     assert!(rt; types.is_list(none) && !types.is_type(none));
     Ok(())
