@@ -50,11 +50,13 @@ fn declarator(alloc: Global, pointers: u32, suffixes: u32) -> Result<Declarator,
 
 /// What derivations make of `part`, or `part` where they make nothing.
 fn made_of(types: &mut Types, part: Part, derivations: &[Derivation]) -> Part {
-    if types.is_part(part) && types.knows_lists_of(derivations) {
-        types.derive_all(part, derivations).unwrap_or(part)
-    } else {
-        part
+    if !types.is_part(part) {
+        return part;
     }
+    if !types.knows_lists_of(derivations) {
+        return part;
+    }
+    types.derive_all(part, derivations).unwrap_or(part)
 }
 
 /// `typedef last(*next)(last,last);` so many times.
