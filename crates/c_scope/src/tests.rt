@@ -191,13 +191,18 @@ fn one_thing_has_one_type_in_all_blocks(rt: HostRuntime) -> Result<(), Fail> {
 
 #[test]
 fn a_block_that_is_left_is_gone(rt: HostRuntime) -> Result<(), Fail> {
+    let structure = Declared::Tag(DeclaredTag {
+        kind: Tag::Structure,
+        ty: 5,
+        is_listed: true,
+    });
     let mut scopes = Scopes::new(rt.alloc())?;
-    assert_eq!(rt; declare(&mut scopes, b"s", tag(true)), Ok(()));
+    assert_eq!(rt; scopes.declare(Space::Tag, b"s", structure), Ok(()));
     scopes.enter()?;
     scopes.leave();
     assert_eq!(rt;
         scopes.look_up_here(Space::Tag, b"s").copied(),
-        Some(tag(true))
+        Some(structure)
     );
     Ok(())
 }
