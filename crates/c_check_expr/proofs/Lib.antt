@@ -1,3 +1,4 @@
 mod CommonKinds
 mod Converted
+pub mod WrittenExpressions
 pub mod Rows

@@ -1,20 +1,16 @@
 -- Expressions whose types, trees and rules were worked out by hand, which the checker computes. Names and types are numbers.
 use Rattle.std.proofs.Common.{◌≡◌, ℕ, true, false, List, [], ◌∷◌, refl, ◌<◌}
-use Rattle.std.specs.Prelude.{◌==◌, length, if◌then◌else◌, codes, Option, Some, None}
+use Rattle.std.specs.Prelude.{◌==◌, ◌&&◌, ◌/◌, length, if◌then◌else◌, codes, Option, Some, None}
 use Rattle.filc_num.specs.declared.integer.IntType.TheVariants as i
 use Rattle.filc_num.specs.declared.integer.BinOp.TheVariants as b
 use Rattle.filc_num.specs.declared.c_int_type.CIntType.TheVariants as kind
 use Rattle.filc_num.specs.Integers.{convert_of, binary_of}
-use Rattle.c_parts.specs.declared.span.Span.{Span}
+use Rattle.filc_num.specs.declared.statics.StaticHalf.TheVariants as half
 use Rattle.c_syntax.specs.declared.expr.Expr.{Expr}
-use Rattle.c_syntax.specs.declared.expr.ExprKind.{ExprKind, Name, Number, Text, Parens', Postfix', Prefix', SizeofExpr', Cast', Chain', Conditional', Assign', Comma', end_of-Expr, more_of-Expr, end_of-Postfix, more_of-Postfix, end_of-Link, more_of-Link, end_of-TypeName, more_of-TypeName}
-use Rattle.c_syntax.specs.declared.expr.PostfixKind.{PostfixKind, Index', Call', Member, Arrow, Increment, Decrement}
+use Rattle.c_syntax.specs.declared.expr.PostfixKind.{Member, Arrow, Increment, Decrement}
 use Rattle.c_syntax.specs.declared.expr.TypeName.{TypeName}
-use Rattle.c_syntax.specs.declared.words.Operator.{Operator}
 use Rattle.c_syntax.specs.declared.words.Operator.TheVariants as o
-use Rattle.c_syntax.specs.declared.words.Prefix.{Prefix}
 use Rattle.c_syntax.specs.declared.words.Prefix.TheVariants as p
-use Rattle.c_syntax.specs.Values.{expr_of}
 use Rattle.c_types.specs.declared.ctype.CType.{CType}
 use Rattle.c_types.specs.declared.ctype.CType.TheVariants as ty
 use Rattle.c_types.specs.declared.ctype.Extent.{Extent}
@@ -33,94 +29,14 @@ use Rattle.c_tree.specs.declared.operation.Operation.TheVariants as op
 use Rattle.c_tree.specs.declared.operation.Access.TheVariants as access
 use Rattle.c_tree.specs.declared.operation.Change.TheVariants as change
 use Rattle.c_tree.specs.declared.operation.Piece.TheVariants as piece
+use Rattle.c_check_expr.specs.declared.known.Known.{Known}
+use Rattle.c_check_expr.specs.declared.known.Known.TheVariants as known
 use Rattle.c_check_expr.specs.Outcomes.{State, Contents, Checked, Fine, Breaks, Broke}
-use Rattle.c_check_expr.specs.TypedExpressions.{Typed, closed, part_of, link}
+use Rattle.c_check_expr.specs.TypedExpressions.{Typed, tree_of, part_of, link, unit_of}
 use Rattle.c_check_expr.specs.Expressions.{Around, typed_value}
-use Rattle.c_check_expr.specs.Contexts.{condition, switch_value, result, integer_constant, asserted, constant_in}
+use Rattle.c_check_expr.specs.Contexts.{condition, switch_value, result, integer_constant, assertion_constant, without_fault, constant_in}
 use Rattle.c_check_expr.specs.Temporaries.{temporaries_of}
-
--- ---- expressions, by their lines
-
-abbrev at : (line first last : ℕ) → Span
-at line first last = record { line = line; first = first; last = last }
-
-abbrev node : ℕ → ExprKind → Expr
-node line x = expr_of (at line 0 0, x)
-
-abbrev name : (line x : ℕ) → Expr
-name line x = node line (Name x)
-
--- an int's constant
-abbrev number : (line n : ℕ) → Expr
-number line n = expr_of (at line n n, Number)
-
--- the text of this token
-abbrev text : (line first : ℕ) → Expr
-text line first = expr_of (at line first first, Text)
-
-abbrev parens : ℕ → Expr → Expr
-parens line x = node line (Parens' _ (more_of-Expr x.span x.kind end_of-Expr))
-
-abbrev before : ℕ → Prefix → Expr → Expr
-before line operator x = node line (Prefix' operator _ (more_of-Expr x.span x.kind end_of-Expr))
-
-abbrev after : ℕ → Expr → PostfixKind → Expr
-after line x operator = node line (Postfix' _ (more_of-Expr x.span x.kind end_of-Expr) (tt ∷ []) (more_of-Postfix (at line 0 0) operator end_of-Postfix))
-
-abbrev index : Expr → PostfixKind
-index x = Index' _ (more_of-Expr x.span x.kind end_of-Expr)
-
-abbrev called_with : Expr → PostfixKind
-called_with x = Call' (tt ∷ []) (more_of-Expr x.span x.kind end_of-Expr)
-
-abbrev called_with_two : Expr → Expr → PostfixKind
-called_with_two x z = Call' (tt ∷ tt ∷ []) (more_of-Expr x.span x.kind (more_of-Expr z.span z.kind end_of-Expr))
-
-abbrev called : PostfixKind
-called = Call' [] end_of-Expr
-
-abbrev pair : ℕ → Expr → Operator → Expr → Expr
-pair line x operator z =
-    node line (Chain' _ (more_of-Expr x.span x.kind end_of-Expr) (tt ∷ []) (more_of-Link (at line 0 0) operator z.span z.kind end_of-Link))
-
-abbrev three : ℕ → Expr → Operator → Expr → Operator → Expr → Expr
-three line x f z g w =
-    node line (Chain' _ (more_of-Expr x.span x.kind end_of-Expr) (tt ∷ tt ∷ []) (more_of-Link (at line 0 0) f z.span z.kind (more_of-Link (at line 0 0) g w.span w.kind end_of-Link)))
-
-abbrev choice : ℕ → Expr → Expr → Expr → Expr
-choice line x z w =
-    node line (Conditional' _ (more_of-Expr x.span x.kind end_of-Expr) _ (more_of-Expr z.span z.kind end_of-Expr) _ (more_of-Expr w.span w.kind end_of-Expr))
-
-abbrev assign : ℕ → Expr → Expr → Expr
-assign line x z = node line (Assign' None _ (more_of-Expr x.span x.kind end_of-Expr) _ (more_of-Expr z.span z.kind end_of-Expr))
-
-abbrev assign_by : ℕ → Rattle.filc_num.specs.declared.integer.BinOp.BinOp → Expr → Expr → Expr
-assign_by line operator x z = node line (Assign' (Some operator) _ (more_of-Expr x.span x.kind end_of-Expr) _ (more_of-Expr z.span z.kind end_of-Expr))
-
-abbrev comma : ℕ → Expr → Expr → Expr
-comma line x z = node line (Comma' _ (more_of-Expr x.span x.kind end_of-Expr) (tt ∷ []) (more_of-Expr z.span z.kind end_of-Expr))
-
-abbrev size_of : ℕ → Expr → Expr
-size_of line x = node line (SizeofExpr' _ (more_of-Expr x.span x.kind end_of-Expr))
-
--- with any type name: which type it names is said beside it
-abbrev cast : TypeName → ℕ → Expr → Expr
-cast t line x = node line (Cast' _ (more_of-TypeName t end_of-TypeName) _ (more_of-Expr x.span x.kind end_of-Expr))
-
-abbrev add : Operator
-add = o.Binary b.Add
-
-abbrev sub : Operator
-sub = o.Binary b.Sub
-
-abbrev divide : Operator
-divide = o.Binary b.Div
-
-abbrev less : Operator
-less = o.Binary b.Lt
-
-abbrev equal : Operator
-equal = o.Binary b.Eq
+use Rattle.c_check_expr.proofs.WrittenExpressions.{name, number, text, parens, before, after, index, called_with, called_with_two, called, pair, three, choice, assign, assign_by, comma, size_of, cast, add, sub, divide, less, equal, int_array, size_of_type}
 
 -- ---- what is seen of an answer
 
@@ -129,7 +45,7 @@ data Seen : Type 0 where
   Stops : (rule line : ℕ) → Seen
 
 abbrev seen_of : Checked Typed → Seen
-seen_of (Fine s t) = Is t.ty (closed t.made)
+seen_of (Fine s t) = Is t.ty (tree_of t.made)
 seen_of (Breaks broken s known) = Stops broken.rule broken.line
 seen_of (Broke broken) = Stops broken.rule broken.line
 
@@ -168,6 +84,7 @@ module _ (object : DeclaredObject) (function : DeclaredFunction) (extent : Exten
       OfType (ty.Structure 15 (Some extent)) ∷
       OfType (ty.Pointer (part_of 10 0)) ∷
       OfType (ty.Integer kind.Long) ∷
+      OfType (ty.ArrayOf (record { element = part_of 1 1; extent = extent; count = 2; some = two })) ∷
       []
 
   abbrev object_of : ObjectNumber → (ty quals : ℕ) → Option Declared
@@ -183,7 +100,8 @@ module _ (object : DeclaredObject) (function : DeclaredFunction) (extent : Exten
 
   -- 0 int a; 1 int b, with a home; 2 int *p; 3 static const int *q; 4 int f(int *); 5 static struct s, a member of which is const;
   -- 6 static int array[2]; 7 const int c; 8 register int r; 9 unsigned u; 10 static _Atomic int n; 11 void *v;
-  -- 12 struct incomplete *k; 13 an enumeration constant 0; 14 char h; 15 struct s *t; 16 static struct w; 17 register int x[2]
+  -- 12 struct incomplete *k; 13 an enumeration constant 0; 14 char h; 15 struct s *t; 16 static struct w; 17 register int x[2];
+  -- 18 const struct w; 19 register struct w; 20 int *_Atomic
   abbrev declarations : List (Option Declared)
   declarations =
       object_of (Local 0) 1 0 ∷
@@ -204,6 +122,9 @@ module _ (object : DeclaredObject) (function : DeclaredFunction) (extent : Exten
       object_of (Local 9) 16 0 ∷
       object_of (Static 4) 15 0 ∷
       register_of (Local 10) 9 0 ∷
+      object_of (Local 11) 15 1 ∷
+      register_of (Local 12) 15 0 ∷
+      object_of (Local 13) 3 8 ∷
       []
 
   abbrev members : ℕ → Option Contents
@@ -213,7 +134,13 @@ module _ (object : DeclaredObject) (function : DeclaredFunction) (extent : Exten
         members = record { name = 70; part = part_of 1 0; offset = 0 } ∷ record { name = 71; part = part_of 1 1; offset = 4 } ∷ [];
         has_const = true;
       })
-      else None
+      else (
+      if n == 15
+      then Some (record {
+        members = record { name = 73; part = part_of 9 0; offset = 0 } ∷ record { name = 74; part = part_of 1 0; offset = 8 } ∷ [];
+        has_const = false;
+      })
+      else None)
 
   abbrev start : State
   start =
@@ -240,7 +167,8 @@ module _ (object : DeclaredObject) (function : DeclaredFunction) (extent : Exten
         intrinsic = (λ n. None);
         printer = record { lock = 9; text = 1; unsigned = 2; signed = 3 };
         char_array = (λ t n. (t, 14));
-        named = (λ s t. Fine s (part_of type_number 0));
+        qualified_array = (λ t part quals. if part.number == 9 && quals == 1 then (t, part_of 18 0) else (t, part));
+        named_type = (λ s t. Fine s (part_of type_number 0));
       }
 
   abbrev seen : Expr → Seen
@@ -261,6 +189,11 @@ module _ (object : DeclaredObject) (function : DeclaredFunction) (extent : Exten
 
   abbrev known_of : Expr → Option ℕ
   known_of x = value_of (typed_value (around 1) start x)
+
+  abbrev known_in : Checked Typed → Known
+  known_in (Fine s t) = t.known
+  known_in (Breaks broken s k) = known.Nothing
+  known_in (Broke broken) = known.Nothing
 
   abbrev used_in : Checked Typed → ℕ
   used_in (Fine s t) = length s.used
@@ -352,6 +285,10 @@ module _ (object : DeclaredObject) (function : DeclaredFunction) (extent : Exten
   size_of_function : seen (size_of 1 (name 1 4)) ≡ Stops 4 1
   size_of_function = refl
 
+  -- the operand is what has no size
+  size_of_incomplete : seen (size_of 1 (before 2 p.Dereference (name 2 12))) ≡ Stops 4 2
+  size_of_incomplete = refl
+
   size_of_unknown : seen (size_of 1 (name 2 99)) ≡ Stops 1 2
   size_of_unknown = refl
 
@@ -367,6 +304,20 @@ module _ (object : DeclaredObject) (function : DeclaredFunction) (extent : Exten
 
   member_behind_pointer : seen (after 1 (name 1 15) (Arrow 71)) ≡ Is int (tree.Chain 1 (leaf (op.Local 9)) (link (op.Offset 4) [] ∷ link (op.Load (access.Integer i.I32)) [] ∷ []))
   member_behind_pointer = refl
+
+  -- the elements of an array in a const structure are const
+
+  const_array_member : seen (before 1 p.AddressOf (after 1 (name 1 18) (Member 73))) ≡ Is (ty.Pointer (part_of 18 0)) (then_do (leaf (op.Local 11)) (op.Offset 0) [])
+  const_array_member = refl
+
+  const_array_member_decays : seen (after 1 (name 1 18) (Member 73)) ≡ Is (ty.Pointer (part_of 1 1)) (then_do (leaf (op.Local 11)) (op.Offset 0) [])
+  const_array_member_decays = refl
+
+  const_array_member_is_no_plain_one : seen (pair 1 (before 1 p.AddressOf (after 1 (name 1 18) (Member 73))) equal (before 1 p.AddressOf (name 1 6))) ≡ Stops 17 1
+  const_array_member_is_no_plain_one = refl
+
+  plain_array_member : seen (pair 1 (before 1 p.AddressOf (after 1 (name 1 16) (Member 73))) equal (before 1 p.AddressOf (name 1 6))) ≡ Is int (tree.Chain 1 (leaf (op.Static 4)) (link (op.Offset 0) [] ∷ link (op.Compare b.Eq) (leaf (op.Static 2) ∷ []) ∷ []))
+  plain_array_member = refl
 
   unknown_member : seen (after 1 (name 1 5) (Member 72)) ≡ Stops 9 1
   unknown_member = refl
@@ -399,6 +350,18 @@ module _ (object : DeclaredObject) (function : DeclaredFunction) (extent : Exten
 
   const_member_assigned : seen (assign 1 (after 1 (name 1 15) (Arrow 71)) (number 1 1)) ≡ Stops 13 1
   const_member_assigned = refl
+
+  structure_copied : seen (assign 1 (name 1 16) (name 1 16)) ≡ Is (ty.Structure 15 (Some extent)) (then_do (leaf (op.Static 4)) (op.Copy (unit_of extent.align) (extent.size / extent.align)) (leaf (op.Static 4) ∷ []))
+  structure_copied = refl
+
+  member_of_assigned : seen (assign 1 (after 1 (parens 1 (assign 1 (name 1 16) (name 1 16))) (Member 74)) (number 1 1)) ≡ Stops 12 1
+  member_of_assigned = refl
+
+  atomic_pointer_read : seen (name 1 20) ≡ Is (ty.Pointer (part_of 1 0)) (then_do (leaf (op.Local 13)) (op.Load access.Box) [])
+  atomic_pointer_read = refl
+
+  atomic_pointer_moves : seen (after 1 (name 1 20) Increment) ≡ Stops 17 1
+  atomic_pointer_moves = refl
 
   stepped_local : seen (after 1 (name 1 0) Increment) ≡ Is int (then_do (leaf (op.Number 1)) (op.StepLocal 0 (change.Integer b.Add i.I32 i.I32)) [])
   stepped_local = refl
@@ -440,6 +403,28 @@ module _ (object : DeclaredObject) (function : DeclaredFunction) (extent : Exten
 
   address_behind_register_array : seen (before 1 p.AddressOf (before 1 p.Dereference (pair 1 (number 1 1) add (name 1 17)))) ≡ Stops 14 1
   address_behind_register_array = refl
+
+  -- an element stays one behind a comma, a cast and a choice
+
+  register_element_behind_comma : seen (before 1 p.AddressOf (after 1 (parens 1 (comma 1 (number 1 0) (name 1 17))) (index (number 1 1)))) ≡ Stops 14 1
+  register_element_behind_comma = refl
+
+  register_element_behind_cast : seen_of (typed_value (around 3) start (before 1 p.AddressOf (after 1 (parens 1 (cast t 1 (name 1 17))) (index (number 1 1))))) ≡ Stops 14 1
+  register_element_behind_cast = refl
+
+  register_element_behind_choice : seen (before 1 p.AddressOf (after 1 (parens 1 (choice 1 (number 1 1) (name 1 2) (name 1 17))) (index (number 1 1)))) ≡ Stops 14 1
+  register_element_behind_choice = refl
+
+  -- a structure that is no place is the object that it comes from
+
+  register_element_of_chosen : seen (before 1 p.AddressOf (after 1 (after 1 (parens 1 (choice 1 (number 1 1) (name 1 16) (name 1 19))) (Member 73)) (index (number 1 1)))) ≡ Stops 14 1
+  register_element_of_chosen = refl
+
+  register_element_of_assigned : seen (before 1 p.AddressOf (after 1 (after 1 (parens 1 (assign 1 (name 1 19) (name 1 16))) (Member 73)) (index (number 1 1)))) ≡ Stops 14 1
+  register_element_of_assigned = refl
+
+  element_of_assigned : seen (after 1 (parens 1 (assign 1 (name 1 16) (name 1 19))) (Member 73)) ≡ Is (ty.Pointer (part_of 1 0)) (tree.Chain 1 (leaf (op.Static 4)) (link (op.Copy (unit_of extent.align) (extent.size / extent.align)) (leaf (op.Local 12) ∷ []) ∷ link (op.Offset 0) [] ∷ []))
+  element_of_assigned = refl
 
   address_behind_void : seen (before 1 p.AddressOf (before 1 p.Dereference (name 1 11))) ≡ Is (ty.Pointer (part_of 0 0)) (leaf (op.Local 6))
   address_behind_void = refl
@@ -604,6 +589,16 @@ module _ (object : DeclaredObject) (function : DeclaredFunction) (extent : Exten
   plain_load : seen (after 1 (name 1 91) (called_with (before 1 p.AddressOf (name 1 1)))) ≡ Stops 23 1
   plain_load = refl
 
+  -- a fault of its operands is that rule, whatever is wanted of it; of a call of printf the type is known
+  bad_load_as_argument : seen (after 1 (name 1 4) (called_with (after 2 (name 2 91) (called_with (before 2 p.AddressOf (name 2 1)))))) ≡ Stops 23 2
+  bad_load_as_argument = refl
+
+  bad_load_as_result : seen_of (result (around 1) start 3 (after 2 (name 2 91) (called_with_two (before 2 p.AddressOf (name 2 10)) (name 2 2)))) ≡ Stops 23 2
+  bad_load_as_result = refl
+
+  bad_format_as_argument : seen (after 1 (name 1 4) (called_with (after 2 (name 2 90) (called_with (name 2 2))))) ≡ Stops 18 2
+  bad_format_as_argument = refl
+
   pointer_added : seen (after 1 (name 1 92) (called_with_two (before 1 p.AddressOf (name 1 10)) (name 1 2))) ≡ Stops 23 1
   pointer_added = refl
 
@@ -644,6 +639,32 @@ module _ (object : DeclaredObject) (function : DeclaredFunction) (extent : Exten
   unfolding binary_of convert_of
   assignment_in_form = refl
 
+  -- no operand of an integer constant is a pointer, evaluated or not
+
+  pointer_beside_or : seen_of (integer_constant (around 3) start (pair 1 (number 1 1) o.LogicalOr (cast t 1 (parens 1 (pair 1 (number 1 1) divide (number 1 0)))))) ≡ Stops 10 1
+  unfolding binary_of convert_of
+  pointer_beside_or = refl
+
+  pointer_negated : known_in (typed_value (around 3) start (before 1 p.Not (cast t 1 (parens 1 (pair 1 (number 1 1) divide (number 1 0)))))) ≡ known.Nothing
+  unfolding binary_of convert_of
+  pointer_negated = refl
+
+  -- addresses
+
+  element_address : known_in (typed_value (around 1) start (before 1 p.AddressOf (after 1 (name 1 6) (index (number 1 1))))) ≡ known.Address (half.Object 2) 4
+  element_address = refl
+
+  address_behind_void_pointer : known_in (typed_value (around 5) start (before 1 p.AddressOf (before 1 p.Dereference (cast t 1 (name 1 6))))) ≡ known.Address (half.Object 2) 0
+  address_behind_void_pointer = refl
+
+  fault_beside_address : seen_of (without_fault (around 1) start (pair 2 (name 2 6) add (pair 2 (number 2 1) divide (number 2 0)))) ≡ Stops 10 2
+  unfolding binary_of convert_of
+  fault_beside_address = refl
+
+  fault_behind_address : seen_of (without_fault (around 1) start (pair 2 (name 2 6) sub (pair 2 (number 2 1) divide (number 2 0)))) ≡ Stops 10 2
+  unfolding binary_of convert_of
+  fault_behind_address = refl
+
   negative : known_of (before 1 p.Minus (number 1 5)) ≡ Some 18446744073709551611
   unfolding binary_of convert_of
   negative = refl
@@ -670,10 +691,14 @@ module _ (object : DeclaredObject) (function : DeclaredFunction) (extent : Exten
   pointer_as_result : seen_of (result (around 1) start 1 (name 2 2)) ≡ Stops 18 2
   pointer_as_result = refl
 
-  asserted_zero : seen_of (asserted (around 1) start (number 2 0)) ≡ Stops 32 2
+  -- a value in a function without a result breaks the rule of its statement
+  result_without_type : seen_of (result (around 1) start 0 (number 2 1)) ≡ Is int (tree.Apply 2 (op.Number 1) [])
+  result_without_type = refl
+
+  asserted_zero : seen_of (assertion_constant (around 1) start (number 2 0)) ≡ Stops 32 2
   asserted_zero = refl
 
-  asserted_one : seen_of (asserted (around 1) start (number 2 1)) ≡ Is int (tree.Apply 2 (op.Number 1) [])
+  asserted_one : seen_of (assertion_constant (around 1) start (number 2 1)) ≡ Is int (tree.Apply 2 (op.Number 1) [])
   asserted_one = refl
 
   -- ---- operands that aren't evaluated, and used names
@@ -697,3 +722,7 @@ module _ (object : DeclaredObject) (function : DeclaredFunction) (extent : Exten
 
   call_with_two_arguments : temporaries_of (after 1 (name 1 4) (called_with_two (name 1 2) (name 1 2))) ≡ 3
   call_with_two_arguments = refl
+
+  -- an expression in a type name counts
+  size_of_long_array : temporaries_of (size_of_type 1 (int_array (pair 1 (number 1 1) add (parens 1 (pair 1 (number 1 1) add (number 1 1)))))) ≡ 3
+  size_of_long_array = refl

@@ -20,10 +20,10 @@ use Rattle.c_tree.specs.declared.operation.Operation.TheVariants as op
 use Rattle.c_tree.specs.declared.operation.Piece.{Piece}
 use Rattle.c_tree.specs.declared.operation.Piece.TheVariants as piece
 use Rattle.c_check_expr.specs.declared.known.Known.TheVariants as known
-use Rattle.c_check_expr.specs.IntegerTypes.{rank_of, promoted}
-use Rattle.c_check_expr.specs.Outcomes.{State, Checked, by_rules, ◌breaks◌, also, seen_as}
-use Rattle.c_check_expr.specs.TypedExpressions.{Typed, Place, Designator, Made, closed, made_of, with_operation, value, kind_value, type_at, is_integer, pointed, is_atomic, access_of}
-use Rattle.c_check_expr.specs.Converting.{integer_as, converted, is_none, or_itself}
+use Rattle.c_check_expr.specs.IntegerTypes.{rank_of, promotion}
+use Rattle.c_check_expr.specs.Outcomes.{State, Checked, by_rules, ◌breaks◌, also, outcome_with}
+use Rattle.c_check_expr.specs.TypedExpressions.{Typed, Place, Designator, Made, tree_of, made_of, with_operation, value, kind_value, type_at, is_integer, pointed_part, is_atomic, access_of}
+use Rattle.c_check_expr.specs.Converting.{integer_as, conversion, is_none, or_itself}
 use Rattle.c_check_expr.specs.Operators.{kind_in}
 
 -- ---- arguments and parameters
@@ -72,7 +72,7 @@ are_all s Past = false
 abbrev pub argument_to : (line : ℕ) → Option ℕ → Checked Typed → Checked Typed
 argument_to line None found = found
 argument_to line (Some number) found =
-    seen_as (λ s x. or_itself x (converted s (type_at s number) x)) (also line 18 (λ s x. is_none (converted s (type_at s number) x)) found)
+    outcome_with (λ s x. or_itself x (conversion s (type_at s number) x)) (also line 18 (λ s x. is_none (conversion s (type_at s number) x)) found)
 
 -- an argument is converted where it stands: rule 18 is broken by the argument's expression, before later ones are looked at
 abbrev pub argument : (line : ℕ) → State → Wanted → Checked Typed → Checked Typed
@@ -90,7 +90,7 @@ abbrev pub with_argument : Typed → Arguments → Arguments
 with_argument x a = record a { values = x ∷ a.values }
 
 abbrev pub trees_of : List Typed → List Expr
-trees_of values = map (λ (x : Typed). closed x.made) values
+trees_of values = map (λ (x : Typed). tree_of x.made) values
 
 -- ---- calls of functions: rules 20 and 21
 
@@ -110,7 +110,7 @@ signature_in s (Some to) = signature_of_type (type_at s to.number)
 
 -- the function type that a value points to
 abbrev pub signature_of : State → Typed → Option Signature
-signature_of s f = signature_in s (pointed f.ty)
+signature_of s f = signature_in s (pointed_part f.ty)
 
 abbrev pub wanted_by : Option Signature → Wanted
 wanted_by None = Anything
@@ -136,7 +136,7 @@ direct_call (Some operation) number = operation
 -- a function that is named is called directly, any other through its pointer
 abbrev pub call_made : (intrinsic : ℕ → Option Operation) (kind_of : ℕ → ℕ) → ℕ → Place → Typed → List Expr → Made
 call_made intrinsic kind_of line (Designator (Some number) ty) f operands = made_of line (tree.Apply line (direct_call (intrinsic number) number) operands)
-call_made intrinsic kind_of line _ f operands = with_operation line (op.CallPointer (kind_of (number_in (pointed f.ty)))) operands f.made
+call_made intrinsic kind_of line _ f operands = with_operation line (op.CallPointer (kind_of (number_in (pointed_part f.ty)))) operands f.made
 
 abbrev pub call : (intrinsic : ℕ → Option Operation) (kind_of : ℕ → ℕ) → ℕ → Place → Typed → State → Arguments → Checked Typed
 call intrinsic kind_of line place f s a =
@@ -196,7 +196,7 @@ are_orders (x ∷ xs) = is_integer x.ty && are_orders xs
 
 abbrev pub waits_for : List Typed → Made → Made
 waits_for [] m = m
-waits_for (x ∷ xs) m = waits_for xs (with_operation m.line (op.Advance 0) (closed x.made ∷ []) m)
+waits_for (x ∷ xs) m = waits_for xs (with_operation m.line (op.Advance 0) (tree_of x.made ∷ []) m)
 
 -- one further operand may follow
 abbrev pub may_follow : List Typed → Bool
@@ -219,14 +219,14 @@ pub record AtomicResult : Type 0 where
 abbrev pub bad_atomic : ℕ → AtomicResult
 bad_atomic line = record { is_good = false; ty = Void; made = made_of line (tree.Apply line op.Abort []) }
 
-abbrev pub desired : State → CType → Typed → List Typed → Made
-desired s ty v orders = waits_for orders (or_itself v (converted s ty v)).made
+abbrev pub desired_tree : State → CType → Typed → List Typed → Made
+desired_tree s ty v orders = waits_for orders (or_itself v (conversion s ty v)).made
 
 abbrev pub is_desired : State → CType → Typed → Bool
-is_desired s ty v = not (is_none (converted s ty v))
+is_desired s ty v = not (is_none (conversion s ty v))
 
 abbrev pub computed_type : Typed → CType → IntType
-computed_type p ty = int_type_of (promoted (kind_in (record p { ty = ty })))
+computed_type p ty = int_type_of (promotion (kind_in (record p { ty = ty })))
 
 abbrev pub object_type : Typed → CType → IntType
 object_type p ty = int_type_of (kind_in (record p { ty = ty }))
@@ -236,20 +236,20 @@ abbrev pub atomic_on : State → ℕ → AtomicCall → (number : ℕ) → CType
 atomic_on s line AtomicLoad number ty (p ∷ rest) =
     record { is_good = may_follow rest; ty = ty; made = with_operation line (op.Load (access_of ty 8)) [] (waits_for rest p.made) }
 atomic_on s line AtomicStore number ty (p ∷ v ∷ rest) =
-    record { is_good = is_desired s ty v && may_follow rest; ty = Void; made = with_operation line (op.Store (access_of ty 8)) (closed (desired s ty v rest) ∷ []) p.made }
+    record { is_good = is_desired s ty v && may_follow rest; ty = Void; made = with_operation line (op.Store (access_of ty 8)) (tree_of (desired_tree s ty v rest) ∷ []) p.made }
 atomic_on s line AtomicExchange number ty (p ∷ v ∷ rest) =
-    record { is_good = is_desired s ty v && may_follow rest; ty = ty; made = with_operation line (op.Swap (access_of ty 8)) (closed (desired s ty v rest) ∷ []) p.made }
+    record { is_good = is_desired s ty v && may_follow rest; ty = ty; made = with_operation line (op.Swap (access_of ty 8)) (tree_of (desired_tree s ty v rest) ∷ []) p.made }
 atomic_on s line AtomicCompareExchange number ty (p ∷ e ∷ v ∷ rest) =
     record {
-      is_good = points_to_plain number (pointed e.ty) && (is_desired s ty v && (is_none_or_two (length rest) && are_orders rest));
+      is_good = points_to_plain number (pointed_part e.ty) && (is_desired s ty v && (is_none_or_two (length rest) && are_orders rest));
       ty = Integer kind.Bool;
-      made = with_operation line (op.Cas (access_of ty 8)) (closed e.made ∷ closed (desired s ty v rest) ∷ []) p.made;
+      made = with_operation line (op.Cas (access_of ty 8)) (tree_of e.made ∷ tree_of (desired_tree s ty v rest) ∷ []) p.made;
     }
 atomic_on s line (AtomicFetch operator) number ty (p ∷ v ∷ rest) =
     record {
       is_good = is_integer ty && (is_desired s ty v && may_follow rest);
       ty = ty;
-      made = with_operation line (op.Fetch (object_type p ty) operator (computed_type p ty)) (closed (desired s ty v rest) ∷ []) p.made;
+      made = with_operation line (op.Fetch (object_type p ty) operator (computed_type p ty)) (tree_of (desired_tree s ty v rest) ∷ []) p.made;
     }
 atomic_on s line what number ty _ = bad_atomic line
 
@@ -259,7 +259,7 @@ atomic_at s line what (Some to) values = atomic_on s line what to.number (type_a
 
 abbrev pub atomic_result : State → ℕ → AtomicCall → List Typed → AtomicResult
 atomic_result s line what [] = bad_atomic line
-atomic_result s line what (p ∷ rest) = atomic_at s line what (atomic_part (pointed p.ty)) (p ∷ rest)
+atomic_result s line what (p ∷ rest) = atomic_at s line what (atomic_part (pointed_part p.ty)) (p ∷ rest)
 
 abbrev pub atomic_call : ℕ → AtomicCall → State → Arguments → Checked Typed
 atomic_call line what s a =
@@ -321,7 +321,7 @@ directive s f letter =
     if letter == 117 then Some (small kind.UnsignedInt (λ n. piece.Put f.unsigned n (Some 10))) else (
     if letter == 120 then Some (small kind.UnsignedInt (λ n. piece.Put f.unsigned n (Some 16))) else (
     if letter == 99 then Some (small kind.Int (λ n. piece.Out n)) else (
-    if letter == 115 then Some (record { takes = (λ x. is_text_part s (pointed x.ty)); gives = itself; piece = (λ n. piece.Put f.text n None) }) else None))))
+    if letter == 115 then Some (record { takes = (λ x. is_text_part s (pointed_part x.ty)); gives = itself; piece = (λ n. piece.Put f.text n None) }) else None))))
 
 -- and behind an l
 abbrev pub long_directive : Printer → ℕ → Option Directive
@@ -330,54 +330,54 @@ long_directive f letter =
     if letter == 117 then Some (great kind.UnsignedLong (λ n. piece.Put f.unsigned n (Some 10))) else (
     if letter == 120 then Some (great kind.UnsignedLong (λ n. piece.Put f.unsigned n (Some 16))) else None))
 
-pub record Printed : Type 0 where
+pub record Printout : Type 0 where
   pub operands : List Expr
   pub pieces : List Piece
 
-abbrev pub with_byte : ℕ → Option Printed → Option Printed
+abbrev pub with_byte : ℕ → Option Printout → Option Printout
 with_byte c None = None
 with_byte c (Some p) = Some (record p { pieces = piece.Byte c ∷ p.pieces })
 
-abbrev pub with_operand : Directive → ℕ → Typed → Option Printed → Option Printed
+abbrev pub with_operand : Directive → ℕ → Typed → Option Printout → Option Printout
 with_operand d n x None = None
-with_operand d n x (Some p) = if d.takes x then Some (record { operands = closed (d.gives x).made ∷ p.operands; pieces = d.piece n ∷ p.pieces }) else None
+with_operand d n x (Some p) = if d.takes x then Some (record { operands = tree_of (d.gives x).made ∷ p.operands; pieces = d.piece n ∷ p.pieces }) else None
 
-abbrev pub all_printed : List Typed → Option Printed
+abbrev pub all_printed : List Typed → Option Printout
 all_printed [] = Some (record { operands = []; pieces = [] })
 all_printed (x ∷ xs) = None
 
 -- a directive takes the next operand
-abbrev pub directed : Option Directive → ℕ → List Typed → (List Typed → Option Printed) → Option Printed
-directed None n xs rest = None
-directed (Some d) n [] rest = None
-directed (Some d) n (x ∷ xs) rest = with_operand d n x (rest xs)
+abbrev pub with_directive : Option Directive → ℕ → List Typed → (List Typed → Option Printout) → Option Printout
+with_directive None n xs rest = None
+with_directive (Some d) n [] rest = None
+with_directive (Some d) n (x ∷ xs) rest = with_operand d n x (rest xs)
 
 -- what a format prints of these operands, of which the first has the number n: it ends at its first NUL; None where it is bad
-abbrev pub printed : State → Printer → Mode → List ℕ → ℕ → List Typed → Option Printed
-printed s f Text [] n xs = all_printed xs
-printed s f Text (c ∷ cs) n xs = if c == 0 then all_printed xs else (if c == 37 then printed s f Percent cs n xs else with_byte c (printed s f Text cs n xs))
-printed s f Percent [] n xs = None
-printed s f Percent (c ∷ cs) n xs =
-    if c == 37 then with_byte 37 (printed s f Text cs n xs) else (
-    if c == 108 then printed s f Long cs n xs else directed (directive s f c) n xs (λ xs. printed s f Text cs (suc n) xs))
-printed s f Long [] n xs = None
-printed s f Long (c ∷ cs) n xs = directed (long_directive f c) n xs (λ xs. printed s f Text cs (suc n) xs)
+abbrev pub printout : State → Printer → Mode → List ℕ → ℕ → List Typed → Option Printout
+printout s f Text [] n xs = all_printed xs
+printout s f Text (c ∷ cs) n xs = if c == 0 then all_printed xs else (if c == 37 then printout s f Percent cs n xs else with_byte c (printout s f Text cs n xs))
+printout s f Percent [] n xs = None
+printout s f Percent (c ∷ cs) n xs =
+    if c == 37 then with_byte 37 (printout s f Text cs n xs) else (
+    if c == 108 then printout s f Long cs n xs else with_directive (directive s f c) n xs (λ xs. printout s f Text cs (suc n) xs))
+printout s f Long [] n xs = None
+printout s f Long (c ∷ cs) n xs = with_directive (long_directive f c) n xs (λ xs. printout s f Text cs (suc n) xs)
 
-abbrev pub is_not_printed : Option Printed → Bool
+abbrev pub is_not_printed : Option Printout → Bool
 is_not_printed None = true
 is_not_printed (Some p) = false
 
-abbrev pub print_made : ℕ → Printer → Option Printed → Made
+abbrev pub print_made : ℕ → Printer → Option Printout → Made
 print_made line f None = made_of line (tree.Apply line op.Abort [])
 print_made line f (Some p) = made_of line (tree.Print line (tree.Apply line (op.Static f.lock) [] ∷ p.operands) p.pieces)
 
-abbrev pub print_value : ℕ → Printer → Option Printed → Typed
+abbrev pub print_value : ℕ → Printer → Option Printout → Typed
 print_value line f p = kind_value kind.Int line (print_made line f p) known.Nothing
 
 -- with a literal as format; it gives the number of bytes
 abbrev pub print_call : ℕ → Printer → List ℕ → State → Arguments → Checked Typed
 print_call line f format s a =
-    let p = printed s f Text format 1 a.values in by_rules line (22 breaks is_not_printed p ∷ []) s (print_value line f p)
+    let p = printout s f Text format 1 a.values in by_rules line (22 breaks is_not_printed p ∷ []) s (print_value line f p)
 
 -- with anything else
 abbrev pub bad_print : ℕ → Printer → State → Arguments → Checked Typed

@@ -38,12 +38,12 @@ abbrev pub known_result : Result ℕ ArithFault → Known
 known_result (Ok v) = Integer v
 known_result (Err fault) = Fault
 
-abbrev pub computed : BinOp → IntType → ℕ → ℕ → Known
-computed op ty x y = if is_held ty (exact_of op ty x y) then known_result (binary_of op ty x y) else Fault
+abbrev pub computed_value : BinOp → IntType → ℕ → ℕ → Known
+computed_value op ty x y = if is_held ty (exact_of op ty x y) then known_result (binary_of op ty x y) else Fault
 
 -- an operator on two values that are of its type already; the count of a shift has a type of its own
 abbrev pub known_binary : BinOp → IntType → Known → Known → Known
-known_binary op ty (Integer x) (Integer y) = computed op ty x y
+known_binary op ty (Integer x) (Integer y) = computed_value op ty x y
 known_binary op ty (Integer x) Fault = Fault
 known_binary op ty Fault (Integer y) = Fault
 known_binary op ty Fault Fault = Fault
@@ -81,13 +81,19 @@ known_chosen _ x y = Nothing
 abbrev pub known_choice : Known → Known → Known → Known
 known_choice test x y = if is_known x && is_known y then known_chosen test x y else Nothing
 
--- an address that goes forward or back by so many elements, modulo 2 ^ 64
+-- an address that goes forward or back by so many elements, modulo 2 ^ 64. An address constant has no fault either (6.6p4)
 abbrev pub known_forward : ℕ → Known → Known → Known
 known_forward bytes (Address half offset) (Integer v) = Address half ((offset + v * bytes) % 2 ^ 64)
+known_forward bytes (Address half offset) Fault = Fault
+known_forward bytes Fault (Integer v) = Fault
+known_forward bytes Fault Fault = Fault
 known_forward bytes _ _ = Nothing
 
 abbrev pub known_back : ℕ → Known → Known → Known
 known_back bytes (Address half offset) (Integer v) = Address half ((offset + (2 ^ 64 - v * bytes % 2 ^ 64)) % 2 ^ 64)
+known_back bytes (Address half offset) Fault = Fault
+known_back bytes Fault (Integer v) = Fault
+known_back bytes Fault Fault = Fault
 known_back bytes _ _ = Nothing
 
 -- an integer constant as a pointer

@@ -1,44 +1,49 @@
 -- What stands round an expression and asks something of it. The expression itself is the construct that breaks the rule, so of
 -- the rules that it breaks by itself and this one the lower decides.
-use Rattle.std.specs.Prelude.{ℕ, ◌&&◌, Bool, true, false, not, int_le, List, Option, Some, None}
+use Rattle.std.specs.Prelude.{ℕ, ◌&&◌, Bool, true, false, not, int_le, Option, Some, None}
 use Rattle.filc_num.specs.declared.integer.IntType.TheVariants.{I32}
 use Rattle.filc_num.specs.declared.c_int_type.CIntType.{CIntType}
 use Rattle.filc_num.specs.CIntTypes.{int_type_of}
 use Rattle.filc_num.specs.Integers.{value_of, least_of, greatest_of}
 use Rattle.c_syntax.specs.declared.expr.Expr.{Expr}
+use Rattle.c_types.specs.declared.ctype.CType.{CType}
 use Rattle.c_types.specs.declared.ctype.CType.TheVariants.{Integer}
 use Rattle.c_check_expr.specs.declared.known.Known.{Known}
 use Rattle.c_check_expr.specs.declared.known.Known.TheVariants as known
-use Rattle.c_check_expr.specs.IntegerTypes.{promoted}
+use Rattle.c_check_expr.specs.IntegerTypes.{promotion}
 use Rattle.c_check_expr.specs.Constants.{known_as}
-use Rattle.c_check_expr.specs.Outcomes.{State, Checked, also, also_if_broken, seen_as}
-use Rattle.c_check_expr.specs.TypedExpressions.{Typed, is_integer, is_scalar, type_at}
-use Rattle.c_check_expr.specs.Converting.{integer_as, converted, is_none, or_itself}
-use Rattle.c_check_expr.specs.Operators.{kind_in, truth_made}
+use Rattle.c_check_expr.specs.Outcomes.{State, Checked, also, also_if_broken, outcome_with}
+use Rattle.c_check_expr.specs.TypedExpressions.{Typed, is_integer, is_scalar, is_void, type_at}
+use Rattle.c_check_expr.specs.Converting.{integer_as, conversion, is_none, or_itself}
+use Rattle.c_check_expr.specs.Operators.{kind_in, test_tree}
 use Rattle.c_check_expr.specs.Expressions.{Around, typed_value}
 
 -- ---- conditions of statements (6.8.4.1, 6.8.5): rule 24. A pointer is looked at first
 
 abbrev pub as_test : State → Typed → Typed
-as_test s t = record t { made = truth_made t.line t }
+as_test s t = record t { made = test_tree t }
 
 abbrev pub condition : Around → State → Expr → Checked Typed
 condition around s e =
-    seen_as as_test (also e.span.line 24 (λ s t. not (is_scalar t.ty)) (typed_value around s e))
+    outcome_with as_test (also e.span.line 24 (λ s t. not (is_scalar t.ty)) (typed_value around s e))
 
 -- ---- the value of a switch (6.8.4.2): rule 25; it is promoted
 
 abbrev pub promoted_value : Typed → Typed
-promoted_value t = integer_as (Integer (promoted (kind_in t))) (promoted (kind_in t)) (kind_in t) t
+promoted_value t = integer_as (Integer (promotion (kind_in t))) (promotion (kind_in t)) (kind_in t) t
 
 abbrev pub switch_value : Around → State → Expr → Checked Typed
-switch_value around s e = seen_as (λ s t. promoted_value t) (also e.span.line 25 (λ s t. not (is_integer t.ty)) (typed_value around s e))
+switch_value around s e = outcome_with (λ s t. promoted_value t) (also e.span.line 25 (λ s t. not (is_integer t.ty)) (typed_value around s e))
 
--- ---- the value of a return statement (6.8.6.4), by the number of the result's type: rule 18
+-- ---- the value of a return statement (6.8.6.4), by the number of the result's type: rule 18. In a function without a result it is the
+-- statement that breaks a rule, after the expression, which may be of any type
+
+abbrev pub is_bad_result : State → CType → Typed → Bool
+is_bad_result s ty t = not (is_void ty) && is_none (conversion s ty t)
 
 abbrev pub result : Around → State → (ty : ℕ) → Expr → Checked Typed
 result around s ty e =
-    seen_as (λ s t. or_itself t (converted s (type_at s ty) t)) (also e.span.line 18 (λ s t. is_none (converted s (type_at s ty) t)) (typed_value around s e))
+    outcome_with (λ s t. or_itself t (conversion s (type_at s ty) t)) (also e.span.line 18 (λ s t. is_bad_result s (type_at s ty) t) (typed_value around s e))
 
 -- ---- integer constants (6.6p6): rule 10
 
@@ -74,15 +79,15 @@ abbrev pub is_zero_constant : Option ℕ → Bool
 is_zero_constant None = false
 is_zero_constant (Some v) = Rattle.std.specs.Prelude.nat_eq v 0
 
-abbrev pub asserted : Around → State → Expr → Checked Typed
-asserted around s e = also e.span.line 32 (λ s t. is_zero_constant (constant_in t.known)) (integer_constant around s e)
+abbrev pub assertion_constant : Around → State → Expr → Checked Typed
+assertion_constant around s e = also e.span.line 32 (λ s t. is_zero_constant (constant_in t.known)) (integer_constant around s e)
 
 -- a case's constant, as a value of the switch's promoted kind (6.8.4.2p5)
 abbrev pub as_case : CIntType → State → Typed → Typed
 as_case k s t = record t { ty = Integer k; known = known_as (int_type_of k) t.known }
 
 abbrev pub case_constant : Around → State → CIntType → Expr → Checked Typed
-case_constant around s k e = seen_as (as_case k) (integer_constant around s e)
+case_constant around s k e = outcome_with (as_case k) (integer_constant around s e)
 
 -- what is an integer constant in form has no fault, where a constant is wanted; whether it is one is another construct's rule: an
 -- array's size, and an initialiser of a static object

@@ -61,10 +61,10 @@ point_alike s p q = p.number == q.number || (is_void (type_at s p.number) || is_
 abbrev pub may_become : State → Part → Part → Bool
 may_become s to from = point_alike s to from && has_all to.qualifiers.0 from.qualifiers.0
 
--- an integer as a pointer without a capability; a pointer is one
+-- an integer as a pointer without a capability; a pointer is one, and points to what it did
 abbrev pub as_pointer : CType → Typed → Typed
 as_pointer ty t =
-    if is_integer t.ty then value ty t.line (with_operation t.line op.ToPointer [] t.made) (known_pointer t.known) else value ty t.line t.made t.known
+    if is_integer t.ty then value ty t.line (with_operation t.line op.ToPointer [] t.made) (known_pointer t.known) else record (value ty t.line t.made t.known) { of_register = t.of_register }
 
 -- a pointer as an integer, or whether it isn't null
 abbrev pub pointer_as : CType → CIntType → Typed → Typed
@@ -86,15 +86,15 @@ to_pointer s to ty t = if is_null_constant t then Some (as_pointer (Pointer to) 
 abbrev pub to_record : CType → Typed → Option Typed
 to_record ty t = if same_record ty t.ty then Some t else None
 
-abbrev pub converted : State → (to : CType) → Typed → Option Typed
-converted s (Integer kind) t = to_integer (Integer kind) kind (integer_kind t.ty) t
-converted s (Enumeration tag) t = to_integer (Enumeration tag) Rattle.filc_num.specs.declared.c_int_type.CIntType.TheVariants.Int (integer_kind t.ty) t
-converted s (Pointer to) t = to_pointer s to t.ty t
-converted s (Structure tag contents) t = to_record (Structure tag contents) t
-converted s (Union tag contents) t = to_record (Union tag contents) t
-converted s Void t = None
-converted s (ArrayOf a) t = None
-converted s (Function signature) t = None
+abbrev pub conversion : State → (to : CType) → Typed → Option Typed
+conversion s (Integer kind) t = to_integer (Integer kind) kind (integer_kind t.ty) t
+conversion s (Enumeration tag) t = to_integer (Enumeration tag) Rattle.filc_num.specs.declared.c_int_type.CIntType.TheVariants.Int (integer_kind t.ty) t
+conversion s (Pointer to) t = to_pointer s to t.ty t
+conversion s (Structure tag contents) t = to_record (Structure tag contents) t
+conversion s (Union tag contents) t = to_record (Union tag contents) t
+conversion s Void t = None
+conversion s (ArrayOf a) t = None
+conversion s (Function signature) t = None
 
 abbrev pub is_none : Option Typed → Bool
 is_none None = true

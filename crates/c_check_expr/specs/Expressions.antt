@@ -7,8 +7,10 @@
 -- kind of expression          rules, the lowest first
 -- name                        1
 -- text                        5
--- sizeof, _Alignof            4
+-- operand of sizeof           4
+-- sizeof, _Alignof of a type  4
 -- operand that is read        4
+-- what = ++ -- or op= changes 4, before the right side is looked at
 -- .                           9 16
 -- ->                          9 15 16
 -- [ ]                         15 17
@@ -54,16 +56,19 @@ use Rattle.c_tree.specs.declared.operation.Operation.{Operation}
 use Rattle.c_tree.specs.declared.operation.Operation.TheVariants as op
 use Rattle.c_check_expr.specs.declared.known.Known.{Known}
 use Rattle.c_check_expr.specs.declared.known.Known.TheVariants as known
-use Rattle.c_check_expr.specs.Outcomes.{State, MemberPlace, Contents, Checked, Fine, next, by_rules, ◌breaks◌, inner, unevaluated, seen_as}
+use Rattle.c_check_expr.specs.Outcomes.{State, MemberPlace, Contents, Checked, Fine, next, by_rules, ◌breaks◌, inner, unevaluated, also, outcome_with}
 use Rattle.c_check_expr.specs.Constants.{known_logic, known_forward}
-use Rattle.c_check_expr.specs.TypedExpressions.{Typed, Place, Value, InLocal, InMemory, InValue, VoidAt, Designator, closed, made_of, leaf, with_operation, value, kind_value, constant, type_at, is_integer, is_pointer, is_scalar, is_record, is_complete, record_number, size_of, or_zero, pointed, part_of, always_has_home}
+use Rattle.c_check_expr.specs.TypedExpressions.{Typed, Place, Value, InLocal, InMemory, InValue, VoidAt, Designator, tree_of, made_of, leaf, with_operation, value, kind_value, constant, type_at, is_integer, is_pointer, is_scalar, is_array, is_record, is_complete, record_number, size_of, or_zero, pointed_part, part_of, always_has_home}
 use Rattle.c_check_expr.specs.Reading.{read, read_found, target_found, is_register, behind}
 use Rattle.c_check_expr.specs.Converting.{is_cast, cast_to}
-use Rattle.c_check_expr.specs.Operators.{takes, Sum, sum, binary, negated, complement, plus, negation, truth_made, choice, assignment, compound, step, one_at, contents_of, room_align}
+use Rattle.c_check_expr.specs.Operators.{takes, Sum, sum, binary, negative, complement, plus, negation, known_test, test_tree, choice, assignment, compound, step, one_at, contents_of, room_align}
 use Rattle.c_check_expr.specs.Calls.{Wanted, Anything, Arguments, no_arguments, with_argument, argument, following, signature_of, wanted_by, call, Special, Printing, Atomic, Printer, special_among, special_names, print_call, bad_print, atomic_call}
 
 -- ---- what is round an expression
 
+-- What a file's later part decides is taken as known: which locals have their address taken, the numbers of functions, which are those
+-- of their bodies in order, and those of the types that pointers to functions are called by. So a pass ahead finds them, or the
+-- numbers are put in at the end.
 pub record Around : Type 0 where
   -- the type and the value of a number, and the value of a character, by the token's number
   pub number : ℕ → CIntType × ℕ
@@ -81,9 +86,12 @@ pub record Around : Type 0 where
   pub printer : Printer
   -- a table with the type of an array of so many char, and that type's number
   pub char_array : List Entry → ℕ → List Entry × ℕ
+  -- a table with an array's type where its innermost elements have these qualifiers too, and that type. The definition of
+  -- declarations says which one it is
+  pub qualified_array : List Entry → Part → (quals : ℕ) → List Entry × Part
   -- which type a type name names; what it declares is declared then. The definition of declarations says it, of type names
   -- in which less nests
-  pub named : State → TypeName → Checked Part
+  pub named_type : State → TypeName → Checked Part
 
 -- ---- names (6.5.1p2)
 
@@ -147,8 +155,12 @@ text_typed around line bytes s = text_in line bytes s (around.char_array s.table
 
 -- ---- sizes (6.5.3.4)
 
+abbrev pub size_value : ℕ → CType → Typed
+size_value line ty = constant kind.UnsignedLong line (or_zero (size_of ty))
+
+-- of a type that is named; an operand that is an expression breaks rule 4 itself
 abbrev pub size_typed : ℕ → CType → State → Checked Typed
-size_typed line ty s = by_rules line (4 breaks not (is_complete ty) ∷ []) s (constant kind.UnsignedLong line (or_zero (size_of ty)))
+size_typed line ty s = by_rules line (4 breaks not (is_complete ty) ∷ []) s (size_value line ty)
 
 abbrev pub align_typed : ℕ → CType → State → Checked Typed
 align_typed line ty s = by_rules line (4 breaks not (is_complete ty) ∷ []) s (constant kind.UnsignedLong line (room_align (room_of ty)))
@@ -170,34 +182,50 @@ abbrev pub is_missing : Option MemberPlace → Bool
 is_missing None = true
 is_missing (Some m) = false
 
--- a part of a place is one, and of a register object; a part of a value is none
-abbrev pub place_of_part : Place → ℕ → Place
-place_of_part (InMemory n is_register) number = InMemory number is_register
-place_of_part (InLocal local n is_register) number = InMemory number is_register
-place_of_part Value number = InValue number
-place_of_part (InValue n) number = InValue number
-place_of_part (VoidAt n) number = InValue number
-place_of_part (Designator f n) number = InValue number
+-- a part of a place is one, and of a register object; a part of a value is none, but may be of a register object
+abbrev pub place_of_part : (of_register : Bool) → Place → ℕ → Place
+place_of_part of_register (InMemory n is_register) number = InMemory number is_register
+place_of_part of_register (InLocal local n is_register) number = InMemory number is_register
+place_of_part of_register Value number = InValue number of_register
+place_of_part of_register (InValue n is_register) number = InValue number is_register
+place_of_part of_register (VoidAt n) number = InValue number false
+place_of_part of_register (Designator f n) number = InValue number false
 
--- with the qualifiers of both
-abbrev pub member_typed : ℕ → State → Typed → Option MemberPlace → Typed
-member_typed line s t None = t
-member_typed line s t (Some m) =
+-- a member's type has the qualifiers of both (6.5.2.3p3), and those of an array are its elements' (6.7.3p9). So the table may grow
+abbrev pub member_part : Around → State → (quals : ℕ) → Part → List Entry × Part
+member_part around s quals part =
+    if is_array (type_at s part.number) then around.qualified_array s.table part quals else (s.table, part_of part.number (bit_or quals part.qualifiers.0))
+
+abbrev pub with_table : State → List Entry → State
+with_table s table = record s { table = table }
+
+-- the member at this offset
+abbrev pub part_at : ℕ → State → Typed → (offset : ℕ) → Part → Typed
+part_at line s t offset part =
     record {
-      ty = type_at s m.part.number;
-      quals = bit_or t.quals m.part.qualifiers.0;
-      place = place_of_part t.place m.part.number;
+      ty = type_at s part.number;
+      quals = part.qualifiers.0;
+      place = place_of_part t.of_register t.place part.number;
       line = line;
-      made = with_operation line (op.Offset m.offset) [] t.made;
-      known = known_forward m.offset t.known (known.Integer 1);
+      made = with_operation line (op.Offset offset) [] t.made;
+      known = known_forward offset t.known (known.Integer 1);
       is_null = false;
       of_register = false;
     }
 
-abbrev pub member : ℕ → ℕ → State → Typed → Checked Typed
-member line name s t =
-    by_rules line (9 breaks (is_record t.ty && is_missing (member_of s name t.ty)) ∷ 16 breaks not (is_record t.ty) ∷ []) s
-    (member_typed line s t (member_of s name t.ty))
+abbrev pub part_with : ℕ → State → Typed → (offset : ℕ) → List Entry × Part → State × Typed
+part_with line s t offset made =
+    let after = with_table s made.0 in (after, part_at line after t offset made.1)
+
+-- what a member is, and the state after it
+abbrev pub member_value : Around → ℕ → State → Typed → Option MemberPlace → State × Typed
+member_value around line s t None = (s, t)
+member_value around line s t (Some m) = part_with line s t m.offset (member_part around s t.quals m.part)
+
+abbrev pub member : Around → ℕ → ℕ → State → Typed → Checked Typed
+member around line name s t =
+    let found = member_value around line s t (member_of s name t.ty) in
+    by_rules line (9 breaks (is_record t.ty && is_missing (member_of s name t.ty)) ∷ 16 breaks not (is_record t.ty) ∷ []) found.0 found.1
 
 abbrev pub behind_pointer : ℕ → State → Typed → Option Part → Typed
 behind_pointer line s t None = t
@@ -205,13 +233,13 @@ behind_pointer line s t (Some to) = behind s line t to.number to.qualifiers.0 (t
 
 -- what a pointer's value points to
 abbrev pub pointed_typed : ℕ → State → Typed → Typed
-pointed_typed line s t = behind_pointer line s t (pointed t.ty)
+pointed_typed line s t = behind_pointer line s t (pointed_part t.ty)
 
-abbrev pub arrow : ℕ → ℕ → State → Typed → Checked Typed
-arrow line name s t =
+abbrev pub arrow : Around → ℕ → ℕ → State → Typed → Checked Typed
+arrow around line name s t =
     let x = pointed_typed line s t in
-    by_rules line (9 breaks (is_pointer t.ty && (is_record x.ty && is_missing (member_of s name x.ty))) ∷ 15 breaks not (is_pointer t.ty) ∷ 16 breaks not (is_record x.ty) ∷ []) s
-    (member_typed line s x (member_of s name x.ty))
+    let found = member_value around line s x (member_of s name x.ty) in
+    by_rules line (9 breaks (is_pointer t.ty && (is_record x.ty && is_missing (member_of s name x.ty))) ∷ 15 breaks not (is_pointer t.ty) ∷ 16 breaks not (is_record x.ty) ∷ []) found.0 found.1
 
 -- ---- `a[i]` is `*(a+i)` (6.5.2.1): rules 15 and 17
 
@@ -226,7 +254,7 @@ has_address (Designator function number) = true
 has_address (InMemory number r) = not r
 has_address (InLocal local number r) = not r
 has_address Value = false
-has_address (InValue number) = false
+has_address (InValue number r) = false
 has_address (VoidAt number) = true
 
 abbrev pub number_of_place : Place → ℕ
@@ -234,7 +262,7 @@ number_of_place (Designator function number) = number
 number_of_place (InMemory number r) = number
 number_of_place (InLocal local number r) = number
 number_of_place Value = 0
-number_of_place (InValue number) = number
+number_of_place (InValue number r) = number
 number_of_place (VoidAt number) = number
 
 abbrev pub with_taken : Option ℕ → State → State
@@ -259,7 +287,7 @@ prefixed line local prefix.Decrement found = next (target_found found) (λ s t. 
 prefixed line local prefix.AddressOf found = next found (λ s t. address line local s t)
 prefixed line local prefix.Dereference found = next (read_found found) (λ s t. dereference line s t)
 prefixed line local prefix.Plus found = next (read_found found) (λ s t. on_integer line s t (plus line t))
-prefixed line local prefix.Minus found = next (read_found found) (λ s t. on_integer line s t (negated line t))
+prefixed line local prefix.Minus found = next (read_found found) (λ s t. on_integer line s t (negative line t))
 prefixed line local prefix.Complement found = next (read_found found) (λ s t. on_integer line s t (complement line t))
 prefixed line local prefix.Not found = next (read_found found) (λ s t. by_rules line (17 breaks not (is_scalar t.ty) ∷ []) s (negation line t))
 
@@ -277,20 +305,20 @@ pub record Tests : Type 0 where
   pub is_scalar : Bool
 
 abbrev pub first_test : State → Typed → Tests
-first_test s x = record { operands = closed (truth_made x.line x) ∷ []; known = x.known; is_scalar = is_scalar x.ty }
+first_test s x = record { operands = tree_of (test_tree x) ∷ []; known = known_test x; is_scalar = is_scalar x.ty }
 
-abbrev pub tested : ℕ → Bool → Tests → State → Typed → Checked Tests
-tested line all t s y =
+abbrev pub with_test : ℕ → Bool → Tests → State → Typed → Checked Tests
+with_test line all t s y =
     by_rules line (17 breaks not (t.is_scalar && is_scalar y.ty) ∷ []) s
-    (record { operands = t.operands ++ closed (truth_made y.line y) ∷ []; known = known_logic all t.known y.known; is_scalar = true })
+    (record { operands = t.operands ++ tree_of (test_tree y) ∷ []; known = known_logic all t.known (known_test y); is_scalar = true })
 
 abbrev pub logic : ℕ → Bool → State → Tests → Typed
 logic line all s t = kind_value kind.Int line (made_of line (tree.Logic line all t.operands)) t.known
 
--- ---- the comma (6.5.17)
+-- ---- the comma (6.5.17): its value comes from its second operand
 
 abbrev pub second : ℕ → Typed → Typed → Typed
-second line x y = value y.ty line (with_operation line op.Second (closed y.made ∷ []) x.made) known.Nothing
+second line x y = record (value y.ty line (with_operation line op.Second (tree_of y.made ∷ []) x.made) known.Nothing) { of_register = y.of_register }
 
 abbrev pub assigned_with : ℕ → Option BinOp → Typed → State → Typed → Checked Typed
 assigned_with line None t s v = assignment line t s v
@@ -315,10 +343,10 @@ abbrev pub by_level : Level → Checked Typed → (Bool → Checked Typed) → C
 by_level Arithmetic found tests = found
 by_level (Logical all) found tests = tests all
 
-abbrev pub operated : ℕ → Operator → Typed → State → Typed → Checked Typed
-operated line (operator.Binary o) x s y = binary line o x s y
-operated line operator.LogicalAnd x s y = Fine s x
-operated line operator.LogicalOr x s y = Fine s x
+abbrev pub linked_value : ℕ → Operator → Typed → State → Typed → Checked Typed
+linked_value line (operator.Binary o) x s y = binary line o x s y
+linked_value line operator.LogicalAnd x s y = Fine s x
+linked_value line operator.LogicalOr x s y = Fine s x
 
 -- ---- names through parentheses
 
@@ -380,16 +408,16 @@ abbrev mutual
   typed_kind around span s (Prefix' operator p (more_of-Expr s1 k1 end_of-Expr)) =
       prefixed span.line (local_named s (name_in k1)) operator (typed_kind around s1 s k1)
   typed_kind around span s (SizeofExpr' p (more_of-Expr s1 k1 end_of-Expr)) =
-      next (typed_kind around s1 s k1) (λ after t. size_typed span.line t.ty (unevaluated s after))
+      next (also s1.line 4 (λ s t. not (is_complete t.ty)) (typed_kind around s1 s k1)) (λ after t. Fine (unevaluated s after) (size_value span.line t.ty))
   typed_kind around span s (SizeofType' p (more_of-TypeName ty end_of-TypeName)) =
-      next (around.named s ty) (λ s part. size_typed span.line (type_at s part.number) s)
+      next (around.named_type s ty) (λ s part. size_typed span.line (type_at s part.number) s)
   typed_kind around span s (AlignofType' p (more_of-TypeName ty end_of-TypeName)) =
-      next (around.named s ty) (λ s part. align_typed span.line (type_at s part.number) s)
+      next (around.named_type s ty) (λ s part. align_typed span.line (type_at s part.number) s)
   typed_kind around span s (Cast' p (more_of-TypeName ty end_of-TypeName) q (more_of-Expr s1 k1 end_of-Expr)) =
-      next (around.named s ty) (λ s part. next (read_found (typed_kind around s1 s k1)) (λ s t. cast span.line (type_at s part.number) s t))
+      next (around.named_type s ty) (λ s part. next (read_found (typed_kind around s1 s k1)) (λ s t. cast span.line (type_at s part.number) s t))
   typed_kind around span s (Chain' p (more_of-Expr s1 k1 end_of-Expr) z links) =
       let found = read_found (typed_kind around s1 s k1) in
-      by_level (level_of links) (typed_links around span.line found links) (λ all. seen_as (logic span.line all) (typed_tests around span.line all (seen_as first_test found) links))
+      by_level (level_of links) (typed_links around span.line found links) (λ all. outcome_with (logic span.line all) (typed_tests around span.line all (outcome_with first_test found) links))
   typed_kind around span s (Conditional' p (more_of-Expr s1 k1 end_of-Expr) q (more_of-Expr s2 k2 end_of-Expr) r (more_of-Expr s3 k3 end_of-Expr)) =
       next (read_found (typed_kind around s1 s k1)) (λ s test.
       next (read_found (typed_kind around s2 s k2)) (λ s x.
@@ -417,8 +445,8 @@ abbrev mutual
   typed_operator around line found (Call' z arguments) =
       next found (λ s t. next (read s t) (λ s f. next (typed_arguments around (wanted_by (signature_of s f)) s arguments) (λ s a.
       call around.intrinsic around.kind_of line t.place f s a)))
-  typed_operator around line found (Member n) = next found (λ s t. member line n s t)
-  typed_operator around line found (Arrow n) = next (read_found found) (λ s t. arrow line n s t)
+  typed_operator around line found (Member n) = next found (λ s t. member around line n s t)
+  typed_operator around line found (Arrow n) = next (read_found found) (λ s t. arrow around line n s t)
   typed_operator around line found Increment = next (target_found found) (λ s t. step line b.Add s t)
   typed_operator around line found Decrement = next (target_found found) (λ s t. step line b.Sub s t)
 
@@ -447,12 +475,12 @@ abbrev mutual
   pub typed_links : {m : _} → Around → ℕ → Checked Typed → Row_of-Link m → Checked Typed
   typed_links around line found end_of-Link = found
   typed_links around line found (more_of-Link span o s1 k1 rest) =
-      typed_links around line (next found (λ s x. next (read_found (typed_kind around s1 s k1)) (λ s y. operated line o x s y))) rest
+      typed_links around line (next found (λ s x. next (read_found (typed_kind around s1 s k1)) (λ s y. linked_value line o x s y))) rest
 
   pub typed_tests : {m : _} → Around → ℕ → Bool → Checked Tests → Row_of-Link m → Checked Tests
   typed_tests around line all found end_of-Link = found
   typed_tests around line all found (more_of-Link span o s1 k1 rest) =
-      typed_tests around line all (next found (λ s t. next (read_found (typed_kind around s1 s k1)) (λ s y. tested line all t s y))) rest
+      typed_tests around line all (next found (λ s t. next (read_found (typed_kind around s1 s k1)) (λ s y. with_test line all t s y))) rest
 
   pub typed_commas : {m : _} → Around → ℕ → Checked Typed → Row_of-Expr m → Checked Typed
   typed_commas around line found end_of-Expr = found
@@ -460,9 +488,9 @@ abbrev mutual
       typed_commas around line (next found (λ s x. next (read_found (typed_kind around s1 s k1)) (λ s y. Fine s (second line x y)))) rest
 
 -- an expression, as a place or a value
-abbrev pub typed : Around → State → Expr → Checked Typed
-typed around s e = typed_kind around e.span s e.kind
+abbrev pub typed_expression : Around → State → Expr → Checked Typed
+typed_expression around s e = typed_kind around e.span s e.kind
 
 -- an expression's value
 abbrev pub typed_value : Around → State → Expr → Checked Typed
-typed_value around s e = read_found (typed around s e)
+typed_value around s e = read_found (typed_expression around s e)

@@ -37,8 +37,8 @@ abbrev pub is_signed_kind : CIntType → Bool
 is_signed_kind kind = is_signed (int_type_of kind)
 
 -- promotion (6.3.1.1p2): an int holds all values of each type of lower rank
-abbrev pub promoted : CIntType → CIntType
-promoted kind = if nat_lt (rank_of kind) 3 then Int else kind
+abbrev pub promotion : CIntType → CIntType
+promotion kind = if nat_lt (rank_of kind) 3 then Int else kind
 
 -- the unsigned type that corresponds to a signed one (6.2.5p6)
 abbrev pub unsigned_of : CIntType → CIntType
@@ -63,4 +63,4 @@ of_promoted a b =
 
 -- the usual arithmetic conversions
 abbrev pub common_kind : CIntType → CIntType → CIntType
-common_kind a b = of_promoted (promoted a) (promoted b)
+common_kind a b = of_promoted (promotion a) (promotion b)

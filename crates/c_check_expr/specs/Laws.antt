@@ -23,8 +23,8 @@ use Rattle.c_tree.specs.declared.operation.Operation.TheVariants as op
 use Rattle.c_check_expr.specs.declared.known.Known.TheVariants as known
 use Rattle.c_check_expr.specs.IntegerTypes.{integer_kind, common_kind}
 use Rattle.c_check_expr.specs.Outcomes.{State, Fine}
-use Rattle.c_check_expr.specs.TypedExpressions.{Typed, closed}
-use Rattle.c_check_expr.specs.Converting.{converted, same_int}
+use Rattle.c_check_expr.specs.TypedExpressions.{Typed, tree_of}
+use Rattle.c_check_expr.specs.Converting.{conversion, same_int}
 use Rattle.c_check_expr.specs.Operators.{is_shift}
 use Rattle.c_check_expr.specs.Expressions.{Around, typed_value}
 
@@ -90,13 +90,13 @@ HasIntConstants s = (n v : ℕ) → s.visible n ≡ Some (declared.Constant v) �
 pub record HasConstants (around : Around) : Type 0 where
   pub numbers : (n : ℕ) → IsValue (int_type_of (around.number n).0) (around.number n).1
   pub characters : (n : ℕ) → IsValue I32 (around.character n)
-  pub declared : (s after : State) (ty : TypeName) (part : Part) → HasIntConstants s → around.named s ty ≡ Fine after part → HasIntConstants after
+  pub declared : (s after : State) (ty : TypeName) (part : Part) → HasIntConstants s → around.named_type s ty ≡ Fine after part → HasIntConstants after
 
 -- what is known of an integer before a run is what its tree computes
 abbrev pub ConstantsAreComputed : Type 0
 ConstantsAreComputed =
     (around : Around) (s after : State) (e : Expr) (t : Typed) (v : ℕ) → HasConstants around → HasIntConstants s → typed_value around s e ≡ Fine after t →
-    t.known ≡ known.Integer v → tree_value (closed t.made) ≡ Some v
+    t.known ≡ known.Integer v → tree_value (tree_of t.made) ≡ Some v
 
 -- ---- conversions
 
@@ -109,12 +109,12 @@ SameKind _ _ = ⊥
 -- where the kind of value stays, the tree does
 abbrev pub ConversionsChangeTypes : Type 0
 ConversionsChangeTypes =
-    (s : State) (to : CType) (t u : Typed) → converted s to t ≡ Some u → SameKind (integer_kind to) (integer_kind t.ty) → u.made ≡ t.made
+    (s : State) (to : CType) (t u : Typed) → conversion s to t ≡ Some u → SameKind (integer_kind to) (integer_kind t.ty) → u.made ≡ t.made
 
 -- what is converted has the type that it is converted to, and is no place
 abbrev pub ConversionsGiveTypes : Type 0
 ConversionsGiveTypes =
-    (s : State) (kind : CIntType) (t u : Typed) → converted s (Rattle.c_types.specs.declared.ctype.CType.TheVariants.Integer kind) t ≡ Some u →
+    (s : State) (kind : CIntType) (t u : Typed) → conversion s (Rattle.c_types.specs.declared.ctype.CType.TheVariants.Integer kind) t ≡ Some u →
     u.ty ≡ Rattle.c_types.specs.declared.ctype.CType.TheVariants.Integer kind
 
 -- ---- operands of integer types (6.3.1.8)

@@ -20,12 +20,12 @@ use Rattle.c_tree.specs.declared.operation.Change.{Change}
 use Rattle.c_tree.specs.declared.operation.Change.TheVariants as change
 use Rattle.c_check_expr.specs.declared.known.Known.{Known}
 use Rattle.c_check_expr.specs.declared.known.Known.TheVariants as known
-use Rattle.c_check_expr.specs.IntegerTypes.{integer_kind, promoted, common_kind}
+use Rattle.c_check_expr.specs.IntegerTypes.{integer_kind, promotion, common_kind}
 use Rattle.c_check_expr.specs.Constants.{known_as, known_binary, known_forward, known_back, known_choice}
 use Rattle.c_check_expr.specs.Outcomes.{State, Contents, Checked, Rule, by_rules, ◌breaks◌}
-use Rattle.c_check_expr.specs.TypedExpressions.{Typed, Place, InLocal, Made, closed, made_of, leaf, with_operation, value, kind_value, type_at, is_integer, is_pointer, is_scalar, is_void, is_array, is_record, record_number, same_record, is_some_number, or_zero, element_size, pointed, part_of, is_const, is_atomic, access_of, unit_of}
-use Rattle.c_check_expr.specs.Reading.{is_lvalue}
-use Rattle.c_check_expr.specs.Converting.{integer_as, is_null_constant, point_alike, as_pointer, converted, is_none, or_itself}
+use Rattle.c_check_expr.specs.TypedExpressions.{Typed, Place, InLocal, Made, tree_of, made_of, leaf, with_operation, value, kind_value, type_at, is_integer, is_pointer, is_scalar, is_void, is_array, is_record, record_number, same_record, is_some_number, or_zero, element_size, pointed_part, part_of, is_const, is_atomic, access_of, unit_of}
+use Rattle.c_check_expr.specs.Reading.{is_lvalue, is_register}
+use Rattle.c_check_expr.specs.Converting.{integer_as, is_null_constant, point_alike, as_pointer, conversion, is_none, or_itself}
 
 -- ---- which operands an operator takes
 
@@ -67,7 +67,7 @@ same_parts _ _ = false
 
 -- two pointers to one type
 abbrev pub point_to_one : Typed → Typed → Bool
-point_to_one x y = same_parts (pointed x.ty) (pointed y.ty)
+point_to_one x y = same_parts (pointed_part x.ty) (pointed_part y.ty)
 
 abbrev pub parts_alike : State → Option Part → Option Part → Bool
 parts_alike s (Some p) (Some q) = point_alike s p q
@@ -76,7 +76,7 @@ parts_alike s _ _ = false
 -- what equality takes of pointers: those to one type, and beside any a null constant or a pointer to void
 abbrev pub are_comparable : State → Typed → Typed → Bool
 are_comparable s x y =
-    parts_alike s (pointed x.ty) (pointed y.ty) || ((is_pointer x.ty && is_null_constant y) || (is_null_constant x && is_pointer y.ty))
+    parts_alike s (pointed_part x.ty) (pointed_part y.ty) || ((is_pointer x.ty && is_null_constant y) || (is_null_constant x && is_pointer y.ty))
 
 abbrev pub takes : Family → State → Typed → Typed → Bool
 takes Integers s x y = are_integers x y
@@ -101,7 +101,7 @@ is_shift _ = false
 
 -- the kind in which an operator on integers is computed: that of both operands, and of a shift that of the left one
 abbrev pub computed_in : BinOp → CIntType → CIntType → CIntType
-computed_in operator x y = if is_shift operator then promoted x else common_kind x y
+computed_in operator x y = if is_shift operator then promotion x else common_kind x y
 
 -- a comparison gives an int (6.5.8p6, 6.5.9p3)
 abbrev pub kind_of_result : BinOp → CIntType → CIntType
@@ -113,27 +113,27 @@ right_known operator ty k = if is_shift operator then k else known_as ty k
 
 abbrev pub on_integers_in : CIntType → ℕ → BinOp → Typed → Typed → Typed
 on_integers_in k line operator x y =
-    let ty = int_type_of k in kind_value (kind_of_result operator k) line (with_operation line (op.Binary operator ty) (closed y.made ∷ []) x.made) (known_binary operator ty (known_as ty x.known) (right_known operator ty y.known))
+    let ty = int_type_of k in kind_value (kind_of_result operator k) line (with_operation line (op.Binary operator ty) (tree_of y.made ∷ []) x.made) (known_binary operator ty (known_as ty x.known) (right_known operator ty y.known))
 
 abbrev pub on_integers : ℕ → BinOp → Typed → Typed → Typed
 on_integers line operator x y = on_integers_in (computed_in operator (kind_in x) (kind_in y)) line operator x y
 
 -- pointer and integer, in either order. An element of a register array stays one
-abbrev pub moved : State → ℕ → Typed → Typed → Typed
-moved s line p n =
-    let bytes = or_zero (element_size s p.ty) in record (value p.ty line (with_operation line (op.Advance bytes) (closed n.made ∷ []) p.made) (known_forward bytes p.known n.known)) { of_register = p.of_register }
+abbrev pub advance : State → ℕ → Typed → Typed → Typed
+advance s line p n =
+    let bytes = or_zero (element_size s p.ty) in record (value p.ty line (with_operation line (op.Advance bytes) (tree_of n.made ∷ []) p.made) (known_forward bytes p.known n.known)) { of_register = p.of_register }
 
-abbrev pub moved_by : State → ℕ → Typed → Typed → Typed
-moved_by s line n p =
-    let bytes = or_zero (element_size s p.ty) in record (value p.ty line (with_operation line (op.AdvanceBy bytes) (closed p.made ∷ []) n.made) (known_forward bytes p.known n.known)) { of_register = p.of_register }
+abbrev pub advance_by : State → ℕ → Typed → Typed → Typed
+advance_by s line n p =
+    let bytes = or_zero (element_size s p.ty) in record (value p.ty line (with_operation line (op.AdvanceBy bytes) (tree_of p.made ∷ []) n.made) (known_forward bytes p.known n.known)) { of_register = p.of_register }
 
-abbrev pub moved_back : State → ℕ → Typed → Typed → Typed
-moved_back s line p n =
-    let bytes = or_zero (element_size s p.ty) in record (value p.ty line (with_operation line (op.Retreat bytes) (closed n.made ∷ []) p.made) (known_back bytes p.known n.known)) { of_register = p.of_register }
+abbrev pub retreat : State → ℕ → Typed → Typed → Typed
+retreat s line p n =
+    let bytes = or_zero (element_size s p.ty) in record (value p.ty line (with_operation line (op.Retreat bytes) (tree_of n.made ∷ []) p.made) (known_back bytes p.known n.known)) { of_register = p.of_register }
 
 -- a difference of pointers is a long
 abbrev pub distance : State → ℕ → Typed → Typed → Typed
-distance s line p q = kind_value kind.Long line (with_operation line (op.Distance (or_zero (element_size s p.ty))) (closed q.made ∷ []) p.made) known.Nothing
+distance s line p q = kind_value kind.Long line (with_operation line (op.Distance (or_zero (element_size s p.ty))) (tree_of q.made ∷ []) p.made) known.Nothing
 
 -- the type of a pointer, or of what stands beside it
 abbrev pub pointer_type : Typed → Typed → CType
@@ -141,13 +141,13 @@ pointer_type x y = if is_pointer x.ty then x.ty else y.ty
 
 abbrev pub comparison : ℕ → BinOp → Typed → Typed → Typed
 comparison line operator x y =
-    let ty = pointer_type x y in kind_value kind.Int line (with_operation line (op.Compare operator) (closed (as_pointer ty y).made ∷ []) (as_pointer ty x).made) known.Nothing
+    let ty = pointer_type x y in kind_value kind.Int line (with_operation line (op.Compare operator) (tree_of (as_pointer ty y).made ∷ []) (as_pointer ty x).made) known.Nothing
 
 abbrev pub sum : State → ℕ → Typed → Typed → Typed
-sum s line x y = if is_pointer x.ty then moved s line x y else moved_by s line x y
+sum s line x y = if is_pointer x.ty then advance s line x y else advance_by s line x y
 
 abbrev pub difference : State → ℕ → Typed → Typed → Typed
-difference s line x y = if is_pointer y.ty then distance s line x y else moved_back s line x y
+difference s line x y = if is_pointer y.ty then distance s line x y else retreat s line x y
 
 abbrev pub on_pointers : Family → State → ℕ → BinOp → Typed → Typed → Typed
 on_pointers Integers s line operator x y = x
@@ -167,29 +167,33 @@ binary line operator x s y = by_rules line (17 breaks not (takes (family_of oper
 
 abbrev pub with_promoted : ℕ → Typed → (IntType → Operation) → (IntType → Known) → Typed
 with_promoted line x operation k =
-    let ty = promoted (kind_in x) in kind_value ty line (with_operation line (operation (int_type_of ty)) [] x.made) (k (int_type_of ty))
+    let ty = promotion (kind_in x) in kind_value ty line (with_operation line (operation (int_type_of ty)) [] x.made) (k (int_type_of ty))
 
-abbrev pub negated : ℕ → Typed → Typed
-negated line x = with_promoted line x op.Negate (λ ty. known_binary b.Sub ty (known.Integer 0) (known_as ty x.known))
+abbrev pub negative : ℕ → Typed → Typed
+negative line x = with_promoted line x op.Negate (λ ty. known_binary b.Sub ty (known.Integer 0) (known_as ty x.known))
 
 abbrev pub complement : ℕ → Typed → Typed
 complement line x = with_promoted line x op.Complement (λ ty. known_binary b.Xor ty (known_as ty x.known) (known_as ty (known.Integer 18446744073709551615)))
 
 -- `+` gives the promoted value
 abbrev pub plus : ℕ → Typed → Typed
-plus line x = let ty = promoted (kind_in x) in record (integer_as (Integer ty) ty (kind_in x) x) { line = line }
+plus line x = let ty = promotion (kind_in x) in record (integer_as (Integer ty) ty (kind_in x) x) { line = line }
 
--- a pointer is looked at first
-abbrev pub truth_made : ℕ → Typed → Made
-truth_made line x = if is_pointer x.ty then with_operation x.line (op.ToInteger Rattle.filc_num.specs.declared.integer.IntType.TheVariants.Bool) [] x.made else x.made
+-- what is known of a value where only matters whether it is 0: of a pointer nothing, since no operand of an integer constant is one
+abbrev pub known_test : Typed → Known
+known_test x = if is_pointer x.ty then known.Nothing else x.known
+
+-- of a pointer, whether it isn't null
+abbrev pub test_tree : Typed → Made
+test_tree x = if is_pointer x.ty then with_operation x.line (op.ToInteger Rattle.filc_num.specs.declared.integer.IntType.TheVariants.Bool) [] x.made else x.made
 
 abbrev pub not_type : Typed → IntType
-not_type x = int_type_of (promoted (kind_in x))
+not_type x = int_type_of (promotion (kind_in x))
 
 -- `!` gives an int
 abbrev pub negation : ℕ → Typed → Typed
 negation line x =
-    kind_value kind.Int line (with_operation line (op.Not (not_type x)) [] (truth_made line x)) (known_binary b.Eq (not_type x) (known_as (not_type x) x.known) (known.Integer 0))
+    kind_value kind.Int line (with_operation line (op.Not (not_type x)) [] (test_tree x)) (known_binary b.Eq (not_type x) (known_as (not_type x) (known_test x)) (known.Integer 0))
 
 -- ---- `?:` (6.5.15): rules 17 and 24
 
@@ -213,13 +217,13 @@ type_of_parts s None None = Void
 -- a null constant has no say (6.5.15p6)
 abbrev pub chosen_pointer : State → Typed → Typed → CType
 chosen_pointer s x y =
-    if is_null_constant x && is_pointer y.ty then y.ty else (if is_null_constant y && is_pointer x.ty then x.ty else type_of_parts s (pointed x.ty) (pointed y.ty))
+    if is_null_constant x && is_pointer y.ty then y.ty else (if is_null_constant y && is_pointer x.ty then x.ty else type_of_parts s (pointed_part x.ty) (pointed_part y.ty))
 
 abbrev pub chosen_type : State → Typed → Typed → CType
 chosen_type s x y =
     if are_integers x y then Integer (common_kind (kind_in x) (kind_in y)) else (if is_record x.ty then x.ty else (if is_void x.ty && is_void y.ty then Void else chosen_pointer s x y))
 
--- an operand as a value of the chosen type
+-- an operand as a value of the chosen type. What either points to is a part of a register object where it was one
 abbrev pub chosen_as : CType → Typed → Typed
 chosen_as (Integer k) x = integer_as (Integer k) k (kind_in x) x
 chosen_as (Pointer to) x = as_pointer (Pointer to) x
@@ -227,8 +231,9 @@ chosen_as ty x = x
 
 abbrev pub choice_of : CType → ℕ → Typed → Typed → Typed → Typed
 choice_of ty line test x y =
-    value ty line (made_of line (tree.Choose line (closed (truth_made line test)) (closed (chosen_as ty x).made) (closed (chosen_as ty y).made)))
-    (known_choice test.known (chosen_as ty x).known (chosen_as ty y).known)
+    let one = chosen_as ty x in
+    let other = chosen_as ty y in
+    record (value ty line (made_of line (tree.Choose line (tree_of (test_tree test)) (tree_of one.made) (tree_of other.made))) (known_choice (known_test test) one.known other.known)) { of_register = one.of_register || other.of_register }
 
 abbrev pub choice : ℕ → Typed → Typed → State → Typed → Checked Typed
 choice line test x s y =
@@ -260,20 +265,20 @@ room_size (Err fault) = 0
 abbrev pub copy_of : CType → Operation
 copy_of ty = op.Copy (unit_of (room_align (room_of ty))) (room_size (room_of ty) / room_align (room_of ty))
 
-abbrev pub stored : ℕ → Typed → Made → Place → Made
-stored line t v (InLocal local number r) = with_operation line (op.SetLocal local) [] v
-stored line t v place =
-    with_operation line (if is_record t.ty then copy_of t.ty else op.Store (access_of t.ty t.quals)) (closed v ∷ []) t.made
+abbrev pub store : ℕ → Typed → Made → Place → Made
+store line t v (InLocal local number r) = with_operation line (op.SetLocal local) [] v
+store line t v place =
+    with_operation line (if is_record t.ty then copy_of t.ty else op.Store (access_of t.ty t.quals)) (tree_of v ∷ []) t.made
 
 -- the value is the one that is stored (6.5.16p3); of a structure it is the left side's object
-abbrev pub assigned : ℕ → Typed → Typed → Typed
-assigned line t v = value t.ty line (stored line t v.made t.place) known.Nothing
+abbrev pub assigned_value : ℕ → Typed → Typed → Typed
+assigned_value line t v = record (value t.ty line (store line t v.made t.place) known.Nothing) { of_register = is_record t.ty && is_register t.place }
 
 -- `=`: rules 12, 13 and 18
 abbrev pub assignment : ℕ → Typed → State → Typed → Checked Typed
 assignment line t s v =
-    by_rules line (12 breaks not (is_lvalue t.place) ∷ 13 breaks not (is_modifiable s t) ∷ 18 breaks is_none (converted s t.ty v) ∷ []) s
-    (assigned line t (or_itself v (converted s t.ty v)))
+    by_rules line (12 breaks not (is_lvalue t.place) ∷ 13 breaks not (is_modifiable s t) ∷ 18 breaks is_none (conversion s t.ty v) ∷ []) s
+    (assigned_value line t (or_itself v (conversion s t.ty v)))
 
 -- what a compound assignment takes: a pointer stays one, and an integer too (6.5.16.2p1). An atomic pointer takes none
 abbrev pub moves_pointer : Family → State → Typed → Typed → Bool
@@ -298,18 +303,18 @@ change_of operator s t v =
     if is_integer t.ty then change.Integer operator (computed_for operator t v) (int_type_of (kind_in t)) else pointer_change (family_of operator) (or_zero (element_size s t.ty))
 
 -- the new value of a place; that of an atomic integer is one event
-abbrev pub updated : ℕ → BinOp → State → Typed → Typed → Place → Made
-updated line operator s t v (InLocal local number r) = with_operation line (op.UpdateLocal local (change_of operator s t v)) [] v.made
-updated line operator s t v place =
+abbrev pub update_tree : ℕ → BinOp → State → Typed → Typed → Place → Made
+update_tree line operator s t v (InLocal local number r) = with_operation line (op.UpdateLocal local (change_of operator s t v)) [] v.made
+update_tree line operator s t v place =
     with_operation line (if is_atomic t.quals then op.Combine (int_type_of (kind_in t)) operator (computed_for operator t v) else op.Update (access_of t.ty t.quals) (change_of operator s t v))
-    (closed v.made ∷ []) t.made
+    (tree_of v.made ∷ []) t.made
 
 -- its old value
-abbrev pub stepped : ℕ → BinOp → State → Typed → Typed → Place → Made
-stepped line operator s t v (InLocal local number r) = with_operation line (op.StepLocal local (change_of operator s t v)) [] v.made
-stepped line operator s t v place =
+abbrev pub step_tree : ℕ → BinOp → State → Typed → Typed → Place → Made
+step_tree line operator s t v (InLocal local number r) = with_operation line (op.StepLocal local (change_of operator s t v)) [] v.made
+step_tree line operator s t v place =
     with_operation line (if is_atomic t.quals then op.Fetch (int_type_of (kind_in t)) operator (computed_for operator t v) else op.Step (access_of t.ty t.quals) (change_of operator s t v))
-    (closed v.made ∷ []) t.made
+    (tree_of v.made ∷ []) t.made
 
 abbrev pub change_rules : BinOp → Typed → State → Typed → List Rule
 change_rules operator t s v =
@@ -317,7 +322,7 @@ change_rules operator t s v =
 
 -- a compound assignment: rules 12, 13 and 17
 abbrev pub compound : ℕ → BinOp → Typed → State → Typed → Checked Typed
-compound line operator t s v = by_rules line (change_rules operator t s v) s (value t.ty line (updated line operator s t v t.place) known.Nothing)
+compound line operator t s v = by_rules line (change_rules operator t s v) s (value t.ty line (update_tree line operator s t v t.place) known.Nothing)
 
 -- the 1 of `++` and `--`
 abbrev pub one_at : ℕ → Typed
@@ -325,4 +330,4 @@ one_at line = kind_value kind.Int line (leaf line (op.Number 1)) (known.Integer 
 
 -- `++` and `--` behind an operand: rules 12, 13 and 17
 abbrev pub step : ℕ → BinOp → State → Typed → Checked Typed
-step line operator s t = by_rules line (change_rules operator t s (one_at line)) s (value t.ty line (stepped line operator s t (one_at line) t.place) known.Nothing)
+step line operator s t = by_rules line (change_rules operator t s (one_at line)) s (value t.ty line (step_tree line operator s t (one_at line) t.place) known.Nothing)

@@ -5,7 +5,7 @@
 -- lowest decides. Some rules are looked at by what stands round an expression, though the expression itself is the
 -- construct that breaks them: a bad argument, a bad constant, a condition that is no scalar. So a rule that a construct
 -- breaks by itself leaves room for a lower one, with what is known of the construct in spite of it.
-use Rattle.std.specs.Prelude.{ℕ, Bool, true, false, nat_lt, ◌==◌, ◌&&◌, List, [], ◌∷◌, Option, Some, None, if◌then◌else◌}
+use Rattle.std.specs.Prelude.{ℕ, Bool, true, false, not, nat_lt, ◌==◌, ◌&&◌, ◌||◌, List, [], ◌∷◌, Option, Some, None, if◌then◌else◌}
 use Rattle.c_types.specs.declared.entry.Entry.{Entry}
 use Rattle.c_types.specs.declared.ctype.Part.{Part}
 use Rattle.c_tree.specs.declared.declared.Declared.{Declared}
@@ -21,7 +21,8 @@ pub record MemberPlace : Type 0 where
   pub part : Part
   pub offset : ℕ
 
--- a structure's or union's members, and whether one of them is const, or an aggregate with such a member
+-- a structure's or union's members, and whether one of them is const, an array of const elements, or an aggregate with such a
+-- member
 pub record Contents : Type 0 where
   pub members : List MemberPlace
   pub has_const : Bool
@@ -41,7 +42,9 @@ pub record State : Type 0 where
   -- the number of the next static object, and the literals so far, the last one first
   pub next_static : ℕ
   pub literals : List Literal
-  -- objects and functions that are used, and locals whose address is taken, the last one first
+  -- objects and functions that are used, as they were declared by then, and locals whose address is taken, the last one first. A
+  -- body or a definition may come later, so whether what is used has one is asked by its number; a function that is one operation
+  -- is used without a body
   pub used : List Declared
   pub taken : List ℕ
 
@@ -71,17 +74,18 @@ abbrev pub first_broken : List Rule → Option ℕ
 first_broken [] = None
 first_broken (r ∷ rules) = if r.is_broken then Some r.number else first_broken rules
 
--- what is known of a construct that breaks a rule. The rules up to 18 and rule 20 leave nothing to look at
+-- what is known of a construct that breaks a rule. The rules up to 18 and rule 20 leave nothing to look at, nor does rule 23: a fault
+-- of an atomic call's operands is that rule and no other
 abbrev pub known_in_spite : {A : Type 0} → ℕ → A → Option A
-known_in_spite rule x = if nat_lt 18 rule && (if rule == 20 then false else true) then Some x else None
+known_in_spite rule x = if nat_lt 18 rule && not (rule == 20 || rule == 23) then Some x else None
 
-abbrev pub judged : {A : Type 0} → (line : ℕ) → Option ℕ → State → A → Checked A
-judged line None s x = Fine s x
-judged line (Some rule) s x = Breaks (record { rule = rule; line = line }) s (known_in_spite rule x)
+abbrev pub outcome_of : {A : Type 0} → (line : ℕ) → Option ℕ → State → A → Checked A
+outcome_of line None s x = Fine s x
+outcome_of line (Some rule) s x = Breaks (record { rule = rule; line = line }) s (known_in_spite rule x)
 
 -- a construct with the rules that can hold of it, in their order
 abbrev pub by_rules : {A : Type 0} → (line : ℕ) → List Rule → State → A → Checked A
-by_rules line rules s x = judged line (first_broken rules) s x
+by_rules line rules s x = outcome_of line (first_broken rules) s x
 
 -- ---- rules that what stands round an expression looks at
 
@@ -105,17 +109,17 @@ also_if_broken line rule test (Fine s x) = by_rules line (rule breaks test s x �
 also_if_broken line rule test (Breaks broken s known) = Breaks (lower rule true broken) s known
 also_if_broken line rule test (Broke broken) = Broke broken
 
--- what is found is seen otherwise
-abbrev pub seen_as : {A B : Type 0} → (State → A → B) → Checked A → Checked B
-seen_as f (Fine s x) = Fine s (f s x)
-seen_as f (Breaks broken s None) = Breaks broken s None
-seen_as f (Breaks broken s (Some x)) = Breaks broken s (Some (f s x))
-seen_as f (Broke broken) = Broke broken
+-- the same outcome, of what this function makes of what is found
+abbrev pub outcome_with : {A B : Type 0} → (State → A → B) → Checked A → Checked B
+outcome_with f (Fine s x) = Fine s (f s x)
+outcome_with f (Breaks broken s None) = Breaks broken s None
+outcome_with f (Breaks broken s (Some x)) = Breaks broken s (Some (f s x))
+outcome_with f (Broke broken) = Broke broken
 
 -- of a construct round it, an inner one is an earlier one
 abbrev pub inner : {A : Type 0} → Checked A → Checked A
 inner found = next found Fine
 
--- an operand that isn't evaluated: what it declares is declared, but nothing is used by it, and nothing made
+-- an operand that isn't evaluated: what it declares is declared, but nothing is used by it, nothing made, and no address taken
 abbrev pub unevaluated : State → State → State
 unevaluated before after = record after { next_static = before.next_static; literals = before.literals; used = before.used; taken = before.taken }

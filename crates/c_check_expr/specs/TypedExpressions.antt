@@ -29,12 +29,12 @@ pub record Made : Type 0 where
   pub first : Expr
   pub links : List Link
 
-abbrev pub closed_with : ℕ → Expr → List Link → Expr
-closed_with line first [] = first
-closed_with line first (l ∷ links) = tree.Chain line first (l ∷ links)
+abbrev pub tree_with : ℕ → Expr → List Link → Expr
+tree_with line first [] = first
+tree_with line first (l ∷ links) = tree.Chain line first (l ∷ links)
 
-abbrev pub closed : Made → Expr
-closed m = closed_with m.line m.first m.links
+abbrev pub tree_of : Made → Expr
+tree_of m = tree_with m.line m.first m.links
 
 abbrev pub made_of : ℕ → Expr → Made
 made_of line e = record { line = line; first = e; links = [] }
@@ -48,7 +48,7 @@ link op operands = record { op = op; operands = operands }
 -- an operation with the tree as its first operand. The links of a chain have its line; on another line a new chain begins
 abbrev pub with_operation : ℕ → Operation → List Expr → Made → Made
 with_operation line op operands m =
-    if line == m.line then record m { links = m.links ++ link op operands ∷ [] } else record { line = line; first = closed m; links = link op operands ∷ [] }
+    if line == m.line then record m { links = m.links ++ link op operands ∷ [] } else record { line = line; first = tree_of m; links = link op operands ∷ [] }
 
 -- ---- what an expression names
 
@@ -59,8 +59,8 @@ pub data Place : Type 0 where
   InLocal : (local number : ℕ) (is_register : Bool) → Place
   -- an object whose address the tree gives, of the type of this number
   InMemory : (number : ℕ) (is_register : Bool) → Place
-  -- a member of a structure that is no place: it lies in memory, and is no place itself (6.2.4p8)
-  InValue : (number : ℕ) → Place
+  -- a member of a structure that is no place: it lies in the object that the structure comes from, and is no place itself (6.2.4p8)
+  InValue : (number : ℕ) (is_register : Bool) → Place
   -- what a pointer to void points to, by the number of that type: no object, but it has an address (6.5.3.2p1)
   VoidAt : (number : ℕ) → Place
   -- a function of the type of this number, by its own number where it is named
@@ -77,7 +77,7 @@ pub record Typed : Type 0 where
   pub known : Known
   -- `(void *)0`
   pub is_null : Bool
-  -- a pointer to an element of a register array, which is a part of that
+  -- a pointer to an element of a register array, which is a part of that, or a structure that comes from a register object
   pub of_register : Bool
 
 abbrev pub value : CType → ℕ → Made → Known → Typed
@@ -182,15 +182,15 @@ abbrev pub is_complete : CType → Bool
 is_complete ty = is_some_number (size_of ty)
 
 -- what a pointer points to
-abbrev pub pointed : CType → Option Part
-pointed (Pointer to) = Some to
-pointed Void = None
-pointed (Integer kind) = None
-pointed (Enumeration tag) = None
-pointed (ArrayOf a) = None
-pointed (Function signature) = None
-pointed (Structure tag contents) = None
-pointed (Union tag contents) = None
+abbrev pub pointed_part : CType → Option Part
+pointed_part (Pointer to) = Some to
+pointed_part Void = None
+pointed_part (Integer kind) = None
+pointed_part (Enumeration tag) = None
+pointed_part (ArrayOf a) = None
+pointed_part (Function signature) = None
+pointed_part (Structure tag contents) = None
+pointed_part (Union tag contents) = None
 
 abbrev pub part_size : State → Option Part → Option ℕ
 part_size s None = None
@@ -198,7 +198,7 @@ part_size s (Some to) = size_of (type_at s to.number)
 
 -- the size of what a pointer points to, where that is complete
 abbrev pub element_size : State → CType → Option ℕ
-element_size s ty = part_size s (pointed ty)
+element_size s ty = part_size s (pointed_part ty)
 
 -- ---- qualifiers
 

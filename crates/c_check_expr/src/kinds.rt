@@ -1,7 +1,7 @@
 //! Integer types in operations: ranks, promotion, and the type of two operands (C11 6.3.1).
 
 ghost use Rattle.std.specs.Prelude.{◌≡◌};
-ghost use Rattle.c_check_expr.specs.IntegerTypes.{rank_of, is_signed_kind, promoted, unsigned_of, greater_rank, of_both_signs, of_promoted, common_kind};
+ghost use Rattle.c_check_expr.specs.IntegerTypes.{rank_of, is_signed_kind, promotion, unsigned_of, greater_rank, of_both_signs, of_promoted, common_kind};
 
 use filc_num::CIntType;
 
@@ -21,7 +21,7 @@ pub fn rank(kind: CIntType) -> u32
 
 /// What promotion makes of a type (6.3.1.1p2).
 pub fn promote(kind: CIntType) -> CIntType
-    ensures { result ≡ promoted kind }
+    ensures { result ≡ promotion kind }
 {
     if rank(kind) < 3 { CIntType::Int } else { kind }
 }
