@@ -1,0 +1,4 @@
+mod Queries
+mod Alike
+mod Logs
+mod Runs
