@@ -1,5 +1,5 @@
 -- The types that declarators make, as a table of types has them.
-use Rattle.std.specs.Prelude.{◌≡◌, ℕ, false, List, [], ◌∷◌, slice_get, Option, Some, None, Ok, Err}
+use Rattle.std.specs.Prelude.{◌≡◌, ◌⊎◌, ℕ, false, List, [], ◌∷◌, ◌++◌, slice_get, Option, Some, None, Ok, Err}
 use Rattle.c_types.specs.declared.ctype.CType.{CType}
 use Rattle.c_types.specs.declared.ctype.CType.TheVariants.{Pointer, ArrayOf, Function}
 use Rattle.c_types.specs.declared.ctype.Part.{Part}
@@ -37,6 +37,10 @@ shape_at table number = shape_of_any (type_in table number)
 -- what the first table has, the second one has too
 abbrev pub Keeps : List Entry → List Entry → Type 0
 Keeps old new = (n : ℕ) (e : Entry) → slice_get old n ≡ Some e → slice_get new n ≡ Some e
+
+-- the second table is the first, or the first with one entry more
+abbrev pub GrowsByOne : List Entry → List Entry → Type 0
+GrowsByOne old new = (new ≡ old) ⊎ ((e : Entry) × (new ≡ old ++ e ∷ []))
 
 -- a part without qualifiers of its own, by its type
 abbrev pub IsPlain : List Entry → CType → Part → Type 0

@@ -1,7 +1,7 @@
 -- What a table of types keeps: each entry names what stands before it, and of the right kind.
 --
--- So a type has no part that leads back to it, and one walk over the numbers from a type downwards ends. Each
--- type has one form: the qualifiers of an array are its elements' (C11 6.7.3p9), and a function has none.
+-- So a type has no part that leads back to it, and one walk over the numbers from a type downwards ends. An array
+-- and a function have one form: the qualifiers of an array are its elements' (C11 6.7.3p9), and a function has none.
 use Rattle.std.specs.Prelude.{◌≡◌, ℕ, ◌*◌, ◌<◌, ◌≤◌, List, Option, Some, None, Ok, slice_get, IsSomeAnd}
 use Rattle.std.specs.BTreeMap.{BTreeMap}
 use Rattle.c_types.specs.declared.ctype.CType.{CType}

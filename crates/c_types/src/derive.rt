@@ -16,11 +16,11 @@ use bitflags::Flags;
 use std::alloc::AllocError;
 
 impl Types {
-    ghost use Rattle.std.specs.Prelude.{◌≡◌, ◌≢◌, ℕ, Some, None, All, IfOk, IfErr, IsSomeAnd, OnOk, slice_get};
+    ghost use Rattle.std.specs.Prelude.{◌≡◌, ◌≢◌, ℕ, Some, None, All, IfOk, IfErr, IsSomeAnd, OnOk, OnErr, slice_get};
     ghost use Rattle.c_types.specs.Derivations.{rule_of, lowest_rule, IsCause};
     ghost use Rattle.c_types.specs.declared.entry.Entry.TheVariants.{OfType};
     ghost use Rattle.c_types.specs.Whole.{IsTypeAt, IsListAt, IsPart, DerivationFits, EntryFits};
-    ghost use Rattle.c_types.specs.Declarators.{IsTypeEntry, Keeps, Makes, IsDerived, IsParameterList, IsAdjusted, shape_at, type_of_entry};
+    ghost use Rattle.c_types.specs.Declarators.{IsTypeEntry, Keeps, GrowsByOne, Makes, IsDerived, IsParameterList, IsAdjusted, shape_at, type_of_entry};
 
     /// The type of this number.
     fn type_at(&self, number: u32) -> CType
@@ -34,7 +34,8 @@ impl Types {
         }
     }
 
-    /// The part that a derivation makes of a part. The table may have grown also where this is refused.
+    /// The part that a derivation makes of a part. The table grows by one entry at most, and not at all where this
+    /// is refused.
     pub fn derive(&mut self, of: Part, derivation: Derivation) -> Result<Part, DeriveFault>
         requires part { IsPart self.old of }
         requires list { DerivationFits self.old derivation }
@@ -43,6 +44,8 @@ impl Types {
         ensures fine { OnOk result (rule_of (shape_at self.old of.number) derivation ≡ None) }
         ensures fault { IfErr result (IsCause (rule_of (shape_at self.old of.number) derivation)) }
         ensures kept { Keeps self.old self.new }
+        ensures table { GrowsByOne self.old self.new }
+        ensures err { OnErr result (self.new ≡ self.old) }
     {
         let ty = self.type_at(of.number);
         let shape = Shape::of(&ty);
@@ -77,8 +80,7 @@ impl Types {
     }
 
     /// The part that a declarator's derivations make of a base type, the first of them first. The fault is the
-    /// first of all rules that the derivations break. The table may have grown also where
-    /// this is refused.
+    /// first of all rules that the derivations break. The table may have grown where there is no memory.
     pub fn derive_all(
         &mut self,
         base: Part,
@@ -129,6 +131,8 @@ impl Types {
         ensures adjusted { IfOk result (λ made. IsAdjusted self.old self.new parameter made) }
         ensures part { IfOk result (IsPart self.new) }
         ensures kept { Keeps self.old self.new }
+        ensures table { GrowsByOne self.old self.new }
+        ensures err { OnErr result (self.new ≡ self.old) }
     {
         let to = match self.type_at(parameter.number) {
             CType::ArrayOf(array) => array.element,

@@ -7,11 +7,9 @@
 --     0 < rounds          with no round a lock is cut between its check and its first round, where code has no place
 --     CallRuns            calls are proved after expressions, by induction on their depth
 --     HasWords            a number that a compare and exchange finds is compared in 64 bits
---     CopiesAreCounted    and so are the units of a structure counted
-use Rattle.std.specs.Prelude.{ℕ, ◌<◌, ◌≤◌, ◌^◌, List}
-use Rattle.c_tree.specs.declared.expr.Expr.{Expr, Apply', Chain', Logic', Choose', Print', Row_of-Expr, end_of-Expr, more_of-Expr, Row_of-Link, end_of-Link, more_of-Link}
+use Rattle.std.specs.Prelude.{ℕ, ◌<◌, ◌≤◌, List}
+use Rattle.c_tree.specs.declared.expr.Expr.{Expr}
 use Rattle.c_tree.specs.declared.operation.Operation.{Operation}
-use Rattle.c_tree.specs.declared.operation.Operation.TheVariants as op
 use Rattle.c_tree.specs.Operands.{Outline, Context, OpFits}
 use Rattle.c_tree.specs.Fits.{ExprFits}
 use Rattle.ideal_machine.specs.declared.value.Value.{Value}
@@ -24,34 +22,12 @@ use Rattle.tree_play.specs.Expressions.{play_expr}
 use Rattle.expr_gen.specs.Code.{op_code, expr_code}
 use Rattle.expr_gen.specs.Stretch.{Site, around_at, Between, Runs, from, HasWords, CallRuns, values_from, Matches, Arrived, InRegister}
 
--- a copy's units are counted in a word, as the tree's own type says
-abbrev pub IsCounted : Operation → Type 0
-IsCounted (op.Copy unit count) = count < 2 ^ 64
-IsCounted o = Unit {0}
-
-abbrev mutual
-  pub CopiesAreCounted : Expr → Type 0
-  CopiesAreCounted (Apply' line o z operands) = IsCounted o × OperandsAreCounted operands
-  CopiesAreCounted (Chain' line s (more_of-Expr first end_of-Expr) z links) = CopiesAreCounted first × LinksAreCounted links
-  CopiesAreCounted (Logic' line all z operands) = OperandsAreCounted operands
-  CopiesAreCounted (Choose' line s (more_of-Expr test end_of-Expr) s1 (more_of-Expr one end_of-Expr) s2 (more_of-Expr other end_of-Expr)) =
-      CopiesAreCounted test × (CopiesAreCounted one × CopiesAreCounted other)
-  CopiesAreCounted (Print' line z operands pieces) = OperandsAreCounted operands
-
-  pub OperandsAreCounted : {m : _} → Row_of-Expr m → Type 0
-  OperandsAreCounted end_of-Expr = Unit {0}
-  OperandsAreCounted (more_of-Expr e rest) = CopiesAreCounted e × OperandsAreCounted rest
-
-  pub LinksAreCounted : {m : _} → Row_of-Link m → Type 0
-  LinksAreCounted end_of-Link = Unit {0}
-  LinksAreCounted (more_of-Link o z operands links) = IsCounted o × (OperandsAreCounted operands × LinksAreCounted links)
-
 -- the operands stand in t, t + 1, .., and the value comes into t
 abbrev pub OperationsPlay : Type 0
 OperationsPlay =
     (site : Site) (rounds : ℕ) (call : (function line : ℕ) → List Value → Phrase Value) → 0 < rounds → CallRuns site call →
     (outline : Outline) (here : Context) (o : Operation) (line t n from_index to : ℕ) (base registers : List Value) (env : State) (w : Log) →
-    here.locals ≤ t → OpFits outline here o n → IsCounted o → HasWords w →
+    here.locals ≤ t → OpFits outline here o n → HasWords w →
     Between site from_index (op_code site.library o line t n from_index) to → Matches here.locals t base registers env →
     Runs site (Arrived here.locals t to base (InRegister t)) (from site from_index registers) w
     (run (apply (around_at site rounds call) o (line_in (around_at site rounds call) line) (values_from registers t n) env) w)
@@ -61,7 +37,7 @@ abbrev pub ExpressionsPlay : Type 0
 ExpressionsPlay =
     (site : Site) (rounds : ℕ) (call : (function line : ℕ) → List Value → Phrase Value) → 0 < rounds → CallRuns site call →
     (outline : Outline) (here : Context) (e : Expr) (t from_index to : ℕ) (base registers : List Value) (env : State) (w : Log) →
-    here.locals ≤ t → ExprFits outline here e → CopiesAreCounted e → HasWords w →
+    here.locals ≤ t → ExprFits outline here e → HasWords w →
     Between site from_index (expr_code site.library e t from_index) to → Matches here.locals t base registers env →
     Runs site (Arrived here.locals t to base (InRegister t)) (from site from_index registers) w
     (run (play_expr (around_at site rounds call) e env) w)

@@ -271,7 +271,7 @@ module _
       of_two (λ values. Kept Any (apply around (op.Step access c) line values state)) values h.0 (λ p v. bind_any _ _ (load_related n n Rel rel around.base access p line) (λ _ old.
       bind_any _ _ (change_related n n Rel rel c old v line) (λ _ new. then_gives state _ (λ _. old) (store_related n n Rel rel around.base access p new line))))
   apply_keeps (op.Copy unit m) line values state h =
-      of_two (λ values. Kept Any (apply around (op.Copy unit m) line values state)) values h (λ p q. then_gives state _ (λ _. p) (copy_related n n Rel rel around.base unit m p q line))
+      of_two (λ values. Kept Any (apply around (op.Copy unit m) line values state)) values h.0 (λ p q. then_gives state _ (λ _. p) (copy_related n n Rel rel around.base unit m p q line))
   apply_keeps (op.Swap access) line values state h =
       of_two (λ values. Kept Any (apply around (op.Swap access) line values state)) values h.0 (λ p v. then_gives state _ (λ v. v) (swap_related n n Rel rel around.base access p v line))
   apply_keeps (op.Cas access) line values state h =
