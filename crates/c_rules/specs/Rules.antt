@@ -1,5 +1,5 @@
 -- The rules of the checker by number, and their texts.
-use Rattle.std.specs.Prelude.{ℕ, nat_lt, if◌then◌else◌, List, codes}
+use Rattle.std.specs.Prelude.{ℕ, nat_lt, if◌then◌else◌, List, [], ◌∷◌, codes}
 use Rattle.c_rules.specs.declared.rule.Rule.{Rule}
 use Rattle.c_rules.specs.declared.rule.Rule.TheVariants as rule
 
@@ -90,3 +90,7 @@ text_of rule.NothingDeclared = codes "nothing declared"
 -- of two rules that one construct breaks, the one with the lower number decides
 abbrev pub lower_of : Rule → Rule → Rule
 lower_of a b = if nat_lt (number_of b) (number_of a) then b else a
+
+-- the rules of a whole file: after all constructs the first of these that it breaks decides
+abbrev pub rules_of_a_file : List Rule
+rules_of_a_file = rule.UndefinedFunction ∷ rule.UndefinedObject ∷ rule.NoMain ∷ rule.TooManyFunctions ∷ rule.StaticsTooLarge ∷ rule.TooManyValues ∷ []

@@ -8,7 +8,7 @@ use std::alloc::{AllocError, AllocFailed};
 use thiserror::Error;
 
 /// Why a file that the grammar takes has no program. A line is counted from 1, and is that of the first token of
-/// the construct that breaks the rule.
+/// the construct that breaks the rule. Where a whole file breaks one, the rule says which line it has.
 #[derive(Clone, Copy, Debug, PartialEq, Eq, Error)]
 pub enum CheckFault {
     /// A construct breaks this rule.

@@ -1,7 +1,7 @@
 //! The rules of the checker: what is wrong with a file that the grammar takes.
 
 ghost use Rattle.std.specs.Prelude.{◌≡◌, ◌≤◌};
-ghost use Rattle.c_rules.specs.Rules.{number_of, text_of, lower_of};
+ghost use Rattle.c_rules.specs.Rules.{number_of, text_of, lower_of, rules_of_a_file};
 
 use thiserror::Error;
 
@@ -30,7 +30,8 @@ pub enum Rule {
     #[error("bad array size")]
     BadArraySize,
     /// A result is a function, an array, a structure or a union, a parameter a structure or a union, or
-    /// a body stands after a declarator that is no function (C11 6.7.6.3).
+    /// a body stands after a declarator that makes no function by a list of parameters of its own (C11
+    /// 6.7.6.3, 6.9.1p2).
     #[error("bad function type")]
     BadFunctionType,
     /// A member is a function, two have one name, or a list of members has none (C11 6.7.2.1).
@@ -139,6 +140,20 @@ pub enum Rule {
 }
 
 impl Rule {
+    /// The rules of a whole file, in the order in which they are looked at after all of its constructs.
+    pub fn of_a_file() -> [Rule; 6]
+        ensures { result ≡ rules_of_a_file }
+    {
+        [
+            Rule::UndefinedFunction,
+            Rule::UndefinedObject,
+            Rule::NoMain,
+            Rule::TooManyFunctions,
+            Rule::StaticsTooLarge,
+            Rule::TooManyValues,
+        ]
+    }
+
     /// The rule's number, from 1 to 40.
     pub fn number(self) -> u8
         ensures number { result ≡ number_of self }
