@@ -1,0 +1,5 @@
+pub mod Outcomes
+pub mod Adjusting
+pub mod Keeping
+pub mod Specifying
+pub mod Declaring

@@ -1,0 +1,3 @@
+pub mod ParameterTypes
+pub mod Specified
+pub mod Declarations
