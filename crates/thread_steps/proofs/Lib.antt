@@ -7,3 +7,6 @@ mod Calls
 mod Within
 mod Turns
 mod Near
+mod Registers
+mod Freed
+mod Over

@@ -88,10 +88,10 @@ callers_ext waiting rs ts (suc depth) long same =
 pub lt_true : (a b : ℕ) → a < b → nat_lt a b ≡ true
 lt_true a b h = search rules
 
-lt_holds : (a b : ℕ) → nat_lt a b ≡ true → a < b
+pub lt_holds : (a b : ℕ) → nat_lt a b ≡ true → a < b
 lt_holds a b e = search rules
 
-lt_fails : (a b : ℕ) → nat_lt a b ≡ false → b ≤ a
+pub lt_fails : (a b : ℕ) → nat_lt a b ≡ false → b ≤ a
 lt_fails a b e = search rules
 
 -- ---- writes

@@ -48,11 +48,11 @@ pub all_at : {A : Type 0} (P : A → Type 0) (xs : List A) (n : ℕ) (x : A) →
 all_at P xs n x all e =
     subst P (get_or_from_slice_get xs n x x e) (All-get_or P xs n x (slice_get_within xs n x e) all)
 
-all_first : {A : Type 0} (P : A → Type 0) (x : A) (xs : List A) → P x → All P xs → All P (x ∷ xs)
+pub all_first : {A : Type 0} (P : A → Type 0) (x : A) (xs : List A) → P x → All P xs → All P (x ∷ xs)
 all_first P x xs px pxs zero d lt = px
 all_first P x xs px pxs (suc k) d lt = pxs k d (omega (arith, lt))
 
-all_rest : {A : Type 0} (P : A → Type 0) (x : A) (xs : List A) → All P (x ∷ xs) → All P xs
+pub all_rest : {A : Type 0} (P : A → Type 0) (x : A) (xs : List A) → All P (x ∷ xs) → All P xs
 all_rest P x xs all k d lt = all (suc k) d (omega (arith, lt))
 
 -- there is one at each number within

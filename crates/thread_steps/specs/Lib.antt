@@ -1,4 +1,5 @@
 pub mod Blocks
+pub mod Registers
 pub mod Stands
 pub mod Usable
 pub mod Turns

@@ -1,19 +1,20 @@
 //! A thread and its block of registers.
 
-ghost use Rattle.std.specs.Prelude.{◌≡◌, ◌+◌, ◌<◌, ◌^◌, length, IfOk, Some};
+ghost use Rattle.std.specs.Prelude.{◌≡◌, ◌+◌, ◌<◌, ◌^◌, length, true, IfOk, Some};
+ghost use Rattle.whole_code.specs.Plain.{PlainCode};
 ghost use Rattle.whole_thread.specs.Standing.{register, with_register, at_index};
 ghost use Rattle.whole_thread.specs.Thread.{goes_on, gets, at_stage, before};
-ghost use Rattle.whole_thread.specs.Thread.{here};
+ghost use Rattle.whole_thread.specs.Thread.{here, want_of};
 ghost use Rattle.thread_steps.specs.Short.{IsShortStage};
-ghost use Rattle.thread_steps.specs.Stands.{StandsIn};
+ghost use Rattle.thread_steps.specs.Stands.{StandsIn, is_over};
 ghost use Rattle.thread_steps.specs.Turns.{room_of};
 ghost use Rattle.thread_steps.specs.Usable.{IsUsable};
-ghost use Rattle.whole_thread.specs.declared.stage.Stage.TheVariants as stage;
-ghost use Rattle.whole_thread.specs.declared.stage.Halt.TheVariants as halt;
+ghost use Rattle.whole_thread.specs.declared.stage.Want.TheVariants as want;
 
 mod answer;
 mod begin;
 mod calls;
+mod registers;
 mod reply;
 mod step;
 mod want;
@@ -88,10 +89,34 @@ impl Model for CodeThread {
         × IsShortRound t.granted × IsShortStage t.stage };
 }
 
+/// A thread that has ended, with these frames.
+fn thread_of(registers: Vec<Value>, callers: Vec<Activation>) -> CodeThread
+    requires registers { length registers.items ≡ 262144 }
+    requires callers { length callers.items ≡ 1024 }
+    ensures { is_over result.stage ≡ true }
+{
+    CodeThread {
+        registers,
+        callers,
+        depth: 0,
+        base: 0,
+        function: 0,
+        index: 0,
+        called_at: None,
+        values: 0,
+        granted: None,
+        stage: Stage::Over(Halt::Returned(0)),
+        id: 0,
+        main: false,
+    }
+}
+
 impl CodeThread {
     /// A thread that has ended, with the room of all its frames.
     pub fn new(alloc: Global) -> Result<CodeThread, AllocError>
-        ensures stopped { IfOk result (λ thread. thread.stage ≡ stage.Over (halt.Returned 0)) }
+        ensures over { IfOk result (λ thread. is_over thread.stage ≡ true) }
+        ensures stopped { IfOk result (λ thread.
+            (code : PlainCode) → want_of code thread ≡ want.Stopped) }
     {
         let mut registers = Vec::with_capacity(alloc, 262_144)?;
         for _register in 0..262_144_usize {
@@ -101,20 +126,14 @@ impl CodeThread {
         for _caller in 0..1024_usize {
             callers.push(NONE)?;
         }
-        Ok(CodeThread {
-            registers,
-            callers,
-            depth: 0,
-            base: 0,
-            function: 0,
-            index: 0,
-            called_at: None,
-            values: 0,
-            granted: None,
-            stage: Stage::Over(Halt::Returned(0)),
-            id: 0,
-            main: false,
-        })
+        Ok(thread_of(registers, callers))
+    }
+
+    /// Whether the thread has ended. Then it wants nothing, whatever code it is shown.
+    pub fn is_over(&self) -> bool
+        ensures { result ≡ is_over self.now.stage }
+    {
+        matches!(self.stage, Stage::Over(_))
     }
 
     /// The instruction at which the thread stands.

@@ -12,7 +12,7 @@ ghost use Rattle.whole_thread.specs.Answers.{thread_after_answer};
 ghost use Rattle.whole_thread.specs.Standing.{trap_line};
 ghost use Rattle.whole_thread.specs.Thread.{want_of, want_before, want_at};
 ghost use Rattle.thread_steps.specs.Short.{IsShort, IsShortStage, IsNear};
-ghost use Rattle.thread_steps.specs.Stands.{StandsIn};
+ghost use Rattle.thread_steps.specs.Stands.{IsThreadOf};
 ghost use Rattle.thread_steps.specs.Turns.{room_of};
 ghost use Rattle.thread_steps.specs.Usable.{IsUsable};
 
@@ -517,12 +517,15 @@ impl CodeThread {
     /// Takes in the answer to the event that the thread wants. A check is granted within the first
     /// 2^35 bytes of an object alone.
     pub fn answer(&mut self, code: &Code, answer: Answer)
-        requires stands { StandsIn code.now self.old }
+        requires stands { IsThreadOf code.now self.old }
         requires near { IsNear (want_of code.now self.old) answer }
         ensures exact { self.new ≡ thread_after_answer code.now self.old answer }
-        ensures stands { StandsIn code.now self.new }
+        ensures stands { IsThreadOf code.now self.new }
     {
         let _functions = code.functions();
+        if self.is_over() {
+            return;
+        }
         let i = self.instruction(code);
         let stage = self.stage_here();
         self.answer_at(code, i, stage, answer);

@@ -4,7 +4,7 @@ ghost use Rattle.std.specs.Prelude.{◌≡◌, ◌+◌, ◌<◌, ◌≤◌, ℕ,
 ghost use Rattle.ideal_machine.specs.Values.{value_at};
 ghost use Rattle.whole_thread.specs.Thread.{thread_after_begin};
 ghost use Rattle.thread_steps.specs.Passing.{begun_at};
-ghost use Rattle.thread_steps.specs.Stands.{StandsIn};
+ghost use Rattle.thread_steps.specs.Stands.{IsThreadOf};
 
 use crate::thread::calls::fewer;
 use crate::thread::{CodeThread, ZERO};
@@ -38,7 +38,7 @@ impl CodeThread {
         requires { function < length code.now.functions }
         ensures exact { self.new ≡ thread_after_begin code.now id function
             (record { number = address; half = half }) self.old }
-        ensures stands { StandsIn code.now self.new }
+        ensures stands { IsThreadOf code.now self.new }
     {
         let _functions = code.functions();
         let main = code.main();

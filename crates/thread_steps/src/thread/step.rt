@@ -14,7 +14,7 @@ ghost use Rattle.whole_thread.specs.Thread.{at_stage, free_of, spawn_of, functio
 ghost use Rattle.whole_thread.specs.declared.stage.Stage.TheVariants as stage;
 ghost use Rattle.whole_thread.specs.declared.stage.Want.TheVariants as want;
 ghost use Rattle.whole_thread.specs.Thread.{want_of, thread_after_poll};
-ghost use Rattle.thread_steps.specs.Stands.{IsPlace, HasResult, StandsIn};
+ghost use Rattle.thread_steps.specs.Stands.{IsPlace, HasResult, IsThreadOf};
 ghost use Rattle.thread_steps.specs.Usable.{IsUsable};
 ghost use Rattle.thread_steps.specs.Turns.{is_instruction, turn_by, room_of, is_of_kind, thread_after_turn};
 
@@ -286,14 +286,17 @@ impl CodeThread {
     /// Carries out the instruction at hand, if the thread wants to, and tells whether it did.
     /// `places` has the place of each static object.
     pub fn step(&mut self, code: &Code, places: &[u64]) -> bool
-        requires stands { StandsIn code.now self.old }
+        requires stands { IsThreadOf code.now self.old }
         requires places { length code.now.statics ≤ length places.now }
         requires near { All IsPlace places.now }
         ensures wanted { result ≡ is_instruction (want_of code.now self.old) }
         ensures exact { self.new ≡ thread_after_turn result code.now places.now self.old }
-        ensures stands { StandsIn code.now self.new }
+        ensures stands { IsThreadOf code.now self.new }
     {
         let _functions = code.functions();
+        if self.is_over() {
+            return false;
+        }
         let i = self.instruction(code);
         match self.stage_here() {
             Stage::Before => self.act(code, places, i, i.op),
@@ -311,10 +314,10 @@ impl CodeThread {
 
     /// Goes on after a poll.
     pub fn polled(&mut self, code: &Code)
-        requires stands { StandsIn code.now self.old }
+        requires stands { IsThreadOf code.now self.old }
         requires wanted { want_of code.now self.old ≡ want.Poll }
         ensures exact { self.new ≡ thread_after_poll self.old }
-        ensures stands { StandsIn code.now self.new }
+        ensures stands { IsThreadOf code.now self.new }
     {
         let _functions = code.functions();
         let _i = self.instruction(code);

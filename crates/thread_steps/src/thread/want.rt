@@ -12,7 +12,7 @@ ghost use Rattle.whole_thread.specs.Thread.{want_found, want_stored, want_read, 
 ghost use Rattle.whole_thread.specs.Thread.{want_second, want_at, stage_of, check_of, name_of};
 ghost use Rattle.whole_thread.specs.Thread.{free_of, spawn_of, leave_of, return_of};
 ghost use Rattle.thread_steps.specs.Short.{IsShort, IsShortStage};
-ghost use Rattle.thread_steps.specs.Stands.{StandsIn};
+ghost use Rattle.thread_steps.specs.Stands.{IsThreadOf};
 ghost use Rattle.thread_steps.specs.Turns.{room_of};
 ghost use Rattle.thread_steps.specs.Usable.{IsUsable};
 
@@ -569,11 +569,14 @@ impl CodeThread {
     }
 
     /// What the thread wants next: an event, to carry out an instruction on registers, to go on after
-    /// a poll, or nothing.
+    /// a poll, or nothing, where it has ended.
     pub fn want(&self, code: &Code) -> Want
-        requires { StandsIn code.now self.now }
+        requires { IsThreadOf code.now self.now }
         ensures { result ≡ want_of code.now self.now }
     {
+        if self.is_over() {
+            return Want::Stopped;
+        }
         let i = self.instruction(code);
         self.want_at(code, i.op, self.stage_here())
     }

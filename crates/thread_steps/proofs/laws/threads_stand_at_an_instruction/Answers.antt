@@ -1,4 +1,5 @@
 use Rattle.thread_steps.proofs.Standing.{begin_stands, step_stands, answer_stands, poll_stands, has_instruction}
+use Rattle.thread_steps.proofs.Freed.{freed_stands}
 use Rattle.thread_steps.proofs.laws.threads_stand_at_an_instruction.Goals as goal
 
 pub returns-clause-begin : goal.returns-clause-begin
@@ -15,3 +16,6 @@ returns-clause-poll c = poll_stands
 
 pub returns-clause-there : goal.returns-clause-there
 returns-clause-there c = has_instruction
+
+pub returns-clause-freed : goal.returns-clause-freed
+returns-clause-freed c = freed_stands

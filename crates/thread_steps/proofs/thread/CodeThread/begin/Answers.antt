@@ -1,5 +1,5 @@
 -- The first frame is that with which the function begins.
-use Rattle.std.proofs.Common.{◌≡◌, ◌==◌, ℕ, ◌<◌, List, [], ◌∷◌, min, None, sym, ap, ◌∙◌, subst, Bool}
+use Rattle.std.proofs.Common.{◌≡◌, ◌==◌, ℕ, ◌<◌, List, [], ◌∷◌, min, None, sym, ap, ◌∙◌, subst, Bool, inl}
 use Rattle.ideal_machine.specs.declared.value.Value.{Value}
 use Rattle.ideal_machine.specs.Values.{value_at}
 use Rattle.whole_code.specs.Plain.{plain_function}
@@ -34,5 +34,5 @@ returns-clause-exact c =
 
 pub returns-clause-stands : goal.returns-clause-stands
 returns-clause-stands c =
-    subst (λ (t : Thread). StandsIn c.args.code.now t) (sym (returns-clause-exact c))
-    (begin_stands c.args.code.now c.args.id c.args.function (record { number = c.args.address; half = c.args.half }) c.args.self.now c.functions-functions.ensures.well_formed c.requires)
+    inl (subst (λ (t : Thread). StandsIn c.args.code.now t) (sym (returns-clause-exact c))
+    (begin_stands c.args.code.now c.args.id c.args.function (record { number = c.args.address; half = c.args.half }) c.args.self.now c.functions-functions.ensures.well_formed c.requires))
