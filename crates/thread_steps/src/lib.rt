@@ -8,6 +8,8 @@
 
 mod activation;
 pub mod laws;
+#[cfg(test)]
+mod tests;
 mod thread;
 
 pub use thread::CodeThread;
