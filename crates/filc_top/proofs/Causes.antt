@@ -1,14 +1,21 @@
 -- Each step's ending is a cause, and what was read of a file tells what the whole file is.
-use Rattle.std.proofs.Common.{◌≡◌, ℕ, ◌≤◌, List, [], length, take, refl, sym, ap, subst, ◌∙◌, arith}
-use Rattle.std.specs.Prelude.{Option, Some, None, IfSome, IsSomeAnd}
+use Rattle.std.proofs.Common.{◌≡◌, ℕ, ◌≤◌, ◌<◌, Bool, true, false, List, [], length, take, refl, sym, ap, subst, ◌∙◌, arith}
+use Rattle.std.specs.Prelude.{Option, Some, None, Ok, Err, IfSome, IsSomeAnd, nat_lt, cond}
 use Rattle.std.proofs.lemmas.List.{take_all, length-take}
 use Rattle.filc_io.specs.Outside.{FilesState, file_named}
 use Rattle.filc_io.specs.declared.outside.TheConstants.{MOST_READ}
 use Rattle.form_tree.specs.Plain.{PlainProgram}
 use Rattle.form_reader.specs.Form.{HasForm}
-use Rattle.filc_top.specs.Commands.{IsRun}
-use Rattle.filc_top.specs.Headline.{IsFile, IsRunOf, IsCause, unread, refused, ran, no_memory}
-use Rattle.filc_top.specs.Steps.{HasRead, EndsReading, EndsFrontEnd}
+use Rattle.filc_num.specs.declared.refusal.Refusal.{Refusal}
+use Rattle.filc_num.specs.declared.refusal.RefusalKind.TheVariants as kind
+use Rattle.c_lexer.specs.Source.{without_splices}
+use Rattle.c_lexer.specs.Tokens.{file_limit, tokens_from, user, last_line_of, lines_of}
+use Rattle.c_lexer.specs.declared.fault.LexFault.TheVariants as lexer
+use Rattle.c_front.specs.Phases.{refusal, behind_lexer, expanded_tokens_of}
+use Rattle.filc_top.specs.Checking.{IsRefusedFile, before_parser, by_parser, not_checked}
+use Rattle.filc_top.specs.Commands.{IsRun, IsCheck}
+use Rattle.filc_top.specs.Headline.{IsFile, NamesFile, to_run, to_check, IsCause, unread, refused, checked, ran, no_memory}
+use Rattle.filc_top.specs.Steps.{HasRead, EndsReading, EndsFrontEnd, EndsCheck, RunsForm}
 use Rattle.filc_top.specs.declared.ending.Ending.{Ending}
 use Rattle.filc_top.specs.declared.ending.Ending.TheVariants as ending
 
@@ -43,37 +50,91 @@ whole_read file read program is form =
     let short : length file ≤ MOST_READ = omega (arith, form.size, ap length is, length-take MOST_READ file) in
     subst (λ (bytes : List ℕ). HasForm bytes program) (is ∙ take_all MOST_READ file short) form
 
-module _ (words : List (List ℕ)) (old new : FilesState) (name : List ℕ) (turns : ℕ) (is_run : IsRun words name turns) where
-  pub cause_of_reading : (cause : Ending) (output : List ℕ) → EndsReading old new name cause → output ≡ [] → IsCause words old new cause output
-  cause_of_reading ending.ReadFault output why none =
-      unread (record { name = name; turns = turns; words_are = is_run; why = why }) (record { cause_is = refl; output_is = none })
-  cause_of_reading ending.NoMemory output why none =
-      no_memory (record { name = name; turns = turns; words_are = is_run }) (record { cause_is = refl; output_is = none })
-  cause_of_reading other output why none = absurd why
+lt_holds : (a b : ℕ) → nat_lt a b ≡ true → a < b
+lt_holds a b e = search rules
+
+lt_fails : (a b : ℕ) → nat_lt a b ≡ false → b ≤ a
+lt_fails a b e = search rules
+
+err_is_no_ok : {A B : Type 0} (a : A) (b : B) → Err b ≡ Ok a → ⊥
+err_is_no_ok a b e = cc
+
+-- a file that is too long is refused by its length alone
+too_long : (file : List ℕ) → file_limit < length file → expanded_tokens_of file ≡ Err (refusal kind.TooLong 1)
+too_long file long =
+    let is : nat_lt file_limit (length file) ≡ true = search rules in
+    ap (λ (b : Bool). behind_lexer (without_splices file)
+    (cond b (Err lexer.TooLong) (tokens_from user.library (last_line_of user.library user.line file) (lines_of user.library user.line file) 0 true 0 (without_splices file)))) is
+
+-- what is read of a file is refused as the file is
+module _ (file read : List ℕ) (refused_for : Refusal) (is : read ≡ take MOST_READ file) where
+  long_refusal : file_limit < length file → IsRefusedFile read refused_for → IsRefusedFile file refused_for
+  long_refusal long why = by why
+    where
+      read_long : file_limit < length read
+      read_long = omega (arith, long, ap length is, length-take MOST_READ file)
+
+      by : IsRefusedFile read refused_for → IsRefusedFile file refused_for
+      by (before_parser e) = before_parser (too_long file long ∙ sym (too_long read read_long) ∙ e)
+      by (by_parser tokens fault e is_fault same) = let no = too_long read read_long in absurd (err_is_no_ok _ _ (sym no ∙ e))
+      by (not_checked tokens tree e is_tree same) = let no = too_long read read_long in absurd (err_is_no_ok _ _ (sym no ∙ e))
+
+  pub whole_refusal : IsRefusedFile read refused_for → IsRefusedFile file refused_for
+  whole_refusal why = by (nat_lt file_limit (length file)) refl
+    where
+      by : (b : Bool) → nat_lt file_limit (length file) ≡ b → IsRefusedFile file refused_for
+      by true long = long_refusal (lt_holds file_limit (length file) long) why
+      by false short =
+          let few : length file ≤ file_limit = lt_fails file_limit (length file) short in
+          subst (λ (bytes : List ℕ). IsRefusedFile bytes refused_for) (is ∙ take_all MOST_READ file (omega (arith, few))) why
+
+module _ (words : List (List ℕ)) (old new : FilesState) (name : List ℕ) where
+  pub cause_of_reading : NamesFile words name → (cause : Ending) (output : List ℕ) → EndsReading old new name cause → output ≡ [] → IsCause words old new cause output
+  cause_of_reading names ending.ReadFault output why none =
+      unread (record { name = name; words_are = names; why = why }) (record { cause_is = refl; output_is = none })
+  cause_of_reading names ending.NoMemory output why none =
+      no_memory (record { name = name; words_are = names }) (record { cause_is = refl; output_is = none })
+  cause_of_reading names other output why none = absurd why
 
   module _ (read : List ℕ) (has_read : HasRead old name read) where
-    pub cause_of_front_end : (cause : Ending) (output : List ℕ) → EndsFrontEnd read cause → output ≡ [] → IsCause words old new cause output
-    cause_of_front_end (ending.Refused refusal) output why none =
-        refused
-        (record {
-          file = has_read.file;
-          turns = turns;
-          file_is = record { name = name; words_are = is_run; file_is = has_read.file_is };
-          no_form = λ program form. why.1 program (read_whole has_read.file read program has_read.front form);
-        })
-        (record { cause_is = ap (λ r. ending.Refused r) why.0; output_is = none })
-    cause_of_front_end ending.NoMemory output why none =
-        no_memory (record { name = name; turns = turns; words_are = is_run }) (record { cause_is = refl; output_is = none })
-    cause_of_front_end other output why none = absurd why
+    module _ (turns : ℕ) (is_run : IsRun words name turns) where
+      pub cause_of_front_end : (cause : Ending) (output : List ℕ) → EndsFrontEnd read cause → output ≡ [] → IsCause words old new cause output
+      cause_of_front_end (ending.Refused refusal) output why none =
+          refused
+          (record {
+            file = has_read.file;
+            turns = turns;
+            file_is = record { name = name; words_are = is_run; file_is = has_read.file_is };
+            no_form = λ program form. why.1 program (read_whole has_read.file read program has_read.front form);
+          })
+          (record { cause_is = ap (λ r. ending.Refused r) why.0; output_is = none })
+      cause_of_front_end ending.NoMemory output why none =
+          no_memory (record { name = name; words_are = to_run turns is_run }) (record { cause_is = refl; output_is = none })
+      cause_of_front_end other output why none = absurd why
 
-    pub cause_of_run : (program : PlainProgram) → HasForm read program → (cause : Ending) (output : List ℕ) → IsRunOf program turns cause output → IsCause words old new cause output
-    cause_of_run program form cause output run =
-        ran
+      pub cause_of_run : (cause : Ending) (output : List ℕ) → RunsForm read turns cause output → IsCause words old new cause output
+      cause_of_run cause output runs =
+          ran
+          (record {
+            file = has_read.file;
+            turns = turns;
+            program = runs.program;
+            file_is = record { name = name; words_are = is_run; file_is = has_read.file_is };
+            form = whole_read has_read.file read runs.program has_read.front runs.form;
+            run = runs.run;
+          })
+
+    pub cause_of_check : IsCheck words name → (cause : Ending) (output : List ℕ) → EndsCheck read cause → output ≡ [] → IsCause words old new cause output
+    cause_of_check is_check (ending.Refused refusal) output why none =
+        checked refusal
         (record {
+          name = name;
           file = has_read.file;
-          turns = turns;
-          program = program;
-          file_is = record { name = name; words_are = is_run; file_is = has_read.file_is };
-          form = whole_read has_read.file read program has_read.front form;
-          run = run;
+          words_are = is_check;
+          file_is = has_read.file_is;
+          why = whole_refusal has_read.file read refusal has_read.front why;
         })
+        (record { cause_is = refl; output_is = none })
+    cause_of_check is_check ending.NoMemory output why none =
+        no_memory (record { name = name; words_are = to_check is_check }) (record { cause_is = refl; output_is = none })
+    cause_of_check is_check other output why none = absurd why

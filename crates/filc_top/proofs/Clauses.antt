@@ -7,10 +7,11 @@ use Rattle.ideal_machine.specs.declared.finish.Finish.{Finish}
 use Rattle.ideal_machine.specs.declared.finish.Finish.TheVariants.{Exited, Trapped}
 use Rattle.form_play.specs.Observable.{finish_of}
 use Rattle.single_thread.specs.Alone.{run_world, history_of_run}
-use Rattle.filc_top.specs.Commands.{IsNoCommand}
+use Rattle.filc_top.specs.Commands.{IsCheck, IsNoCommand}
+use Rattle.filc_top.proofs.Words.{check_is_no_run}
 use Rattle.filc_top.specs.Endings.{line_of, not_built}
-use Rattle.filc_top.specs.Headline.{Streams, Devices, ending_of, HasRun, HasNoForm, HasNotRead, IsCause, usage, unread, refused, ran, no_memory, IsWritten, whole, out_failed, err_failed, IsOutcome}
-use Rattle.filc_top.specs.Clauses.{IsOfRun, IsAnswer, IsPutOut, HasRunWhole, HasWriteFault, SaysEnding}
+use Rattle.filc_top.specs.Headline.{Streams, Devices, ending_of, HasRun, HasNoForm, HasRefusal, HasNotRead, NamesFile, to_run, to_check, IsCause, usage, unread, refused, checked, ran, no_memory, IsWritten, whole, out_failed, err_failed, IsOutcome}
+use Rattle.filc_top.specs.Clauses.{IsOfRun, IsAnswer, IsPutOut, HasRunWhole, HasWriteFault, EndsChecking, SaysEnding}
 use Rattle.filc_top.specs.declared.ending.Ending.{Ending}
 use Rattle.filc_top.specs.declared.ending.Ending.TheVariants as ending
 
@@ -66,6 +67,7 @@ module _ (words : List (List ℕ)) (old new : Devices) (result : Ending) (o : Is
   cause_kind (usage none stay silent) = omega (arith, ap kind silent.cause_is)
   cause_kind (unread why silent) = omega (arith, ap kind silent.cause_is)
   cause_kind (refused why silent) = omega (arith, ap kind silent.cause_is)
+  cause_kind (checked refusal why silent) = omega (arith, ap kind silent.cause_is)
   cause_kind (ran why) = omega (arith, ran_kind words old.files o.cause o.output why)
   cause_kind (no_memory why silent) = omega (arith, ap kind silent.cause_is)
 
@@ -103,8 +105,13 @@ module _ (words : List (List ℕ)) (old new : Devices) (result : Ending) (o : Is
       by (usage none stay silent) = none
       by (unread why silent) = absurd (omega (arith, zero_kind, ap kind silent.cause_is))
       by (refused why silent) = absurd (omega (arith, zero_kind, ap kind silent.cause_is))
+      by (checked refusal why silent) = absurd (omega (arith, zero_kind, ap kind silent.cause_is))
       by (ran why) = absurd (omega (arith, zero_kind, ran_kind words old.files o.cause o.output why))
       by (no_memory why silent) = absurd (omega (arith, zero_kind, ap kind silent.cause_is))
+
+  names_none : IsNoCommand words → (name : List ℕ) → NamesFile words name → ⊥
+  names_none none name (to_run turns is) = none.runs_none name turns is
+  names_none none name (to_check is) = none.checks_none name is
 
   -- words that are no command have one cause
   of_no_command : IsNoCommand words → (o.cause ≡ ending.Usage) × (new.files ≡ old.files)
@@ -112,10 +119,11 @@ module _ (words : List (List ℕ)) (old new : Devices) (result : Ending) (o : Is
     where
       by : Cause → (o.cause ≡ ending.Usage) × (new.files ≡ old.files)
       by (usage never stay silent) = (silent.cause_is, stay)
-      by (unread why silent) = absurd (none why.name why.turns why.words_are)
-      by (refused why silent) = absurd (none why.file_is.name why.turns why.file_is.words_are)
-      by (ran why) = absurd (none why.file_is.name why.turns why.file_is.words_are)
-      by (no_memory why silent) = absurd (none why.name why.turns why.words_are)
+      by (unread why silent) = absurd (names_none none why.name why.words_are)
+      by (refused why silent) = absurd (none.runs_none why.file_is.name why.turns why.file_is.words_are)
+      by (checked refusal why silent) = absurd (none.checks_none why.name why.words_are)
+      by (ran why) = absurd (none.runs_none why.file_is.name why.turns why.file_is.words_are)
+      by (no_memory why silent) = absurd (names_none none why.name why.words_are)
 
   no_command_is : IsNoCommand words → (result ≡ ending.Usage) ⊎ (result ≡ ending.WriteFault)
   no_command_is none = by (written_or_faulted o.written)
@@ -124,20 +132,44 @@ module _ (words : List (List ℕ)) (old new : Devices) (result : Ending) (o : Is
       by (inl all) = inl (all.0 ∙ (of_no_command none).0)
       by (inr fault) = inr fault.0
 
-  refused_is : (refusal : Refusal) → result ≡ ending.Refused refusal → (refusal ≡ not_built) × HasNoForm words old.files
+  -- why a file is refused: it should run and has not the form, or it is checked
+  abbrev RefusedFor : Refusal → Type 0
+  RefusedFor refusal = ((refusal ≡ not_built) × HasNoForm words old.files) ⊎ HasRefusal words old.files refusal
+
+  refused_is : (refusal : Refusal) → result ≡ ending.Refused refusal → RefusedFor refusal
   refused_is refusal is = by o.caused
     where
       cause_is : o.cause ≡ ending.Refused refusal
       cause_is = is_cause (ending.Refused refusal) is (λ h. omega (arith, h))
 
-      by : Cause → (refusal ≡ not_built) × HasNoForm words old.files
+      by : Cause → RefusedFor refusal
       by (usage none stay silent) = absurd (omega (arith, ap kind cause_is, ap kind silent.cause_is))
       by (unread why silent) = absurd (omega (arith, ap kind cause_is, ap kind silent.cause_is))
       by (refused why silent) =
           let both : ending.Refused refusal ≡ ending.Refused not_built = sym cause_is ∙ silent.cause_is in
-          (cc, why)
+          inl (cc, why)
+      by (checked other why silent) =
+          let both : ending.Refused other ≡ ending.Refused refusal = sym silent.cause_is ∙ cause_is in
+          let same : other ≡ refusal = cc in
+          inr (subst (λ (r : Refusal). HasRefusal words old.files r) same why)
       by (ran why) = absurd (omega (arith, ap kind cause_is, ran_kind words old.files o.cause o.output why))
       by (no_memory why silent) = absurd (omega (arith, ap kind cause_is, ap kind silent.cause_is))
+
+  -- words that check a file end with its refusal, or for want of something
+  checked_is : (name : List ℕ) → IsCheck words name → EndsChecking words old.files result
+  checked_is name is = by (written_or_faulted o.written)
+    where
+      of_cause : Cause → EndsChecking words old.files o.cause
+      of_cause (usage none stay silent) = absurd (none.checks_none name is)
+      of_cause (unread why silent) = subst (EndsChecking words old.files) (sym silent.cause_is) tt
+      of_cause (refused why silent) = absurd (check_is_no_run words name why.file_is.name why.turns is why.file_is.words_are)
+      of_cause (checked refusal why silent) = subst (EndsChecking words old.files) (sym silent.cause_is) why
+      of_cause (ran why) = absurd (check_is_no_run words name why.file_is.name why.turns is why.file_is.words_are)
+      of_cause (no_memory why silent) = subst (EndsChecking words old.files) (sym silent.cause_is) tt
+
+      by : AllWritten ⊎ Faulted → EndsChecking words old.files result
+      by (inl all) = subst (EndsChecking words old.files) (sym all.0) (of_cause o.caused)
+      by (inr fault) = subst (EndsChecking words old.files) (sym fault.0) tt
 
   read_fault_is : result ≡ ending.ReadFault → HasNotRead words old.files new.files
   read_fault_is is = by o.caused
@@ -149,6 +181,7 @@ module _ (words : List (List ℕ)) (old new : Devices) (result : Ending) (o : Is
       by (usage none stay silent) = absurd (omega (arith, one_kind, ap kind silent.cause_is))
       by (unread why silent) = why
       by (refused why silent) = absurd (omega (arith, one_kind, ap kind silent.cause_is))
+      by (checked refusal why silent) = absurd (omega (arith, one_kind, ap kind silent.cause_is))
       by (ran why) = absurd (omega (arith, one_kind, ran_kind words old.files o.cause o.output why))
       by (no_memory why silent) = absurd (omega (arith, one_kind, ap kind silent.cause_is))
 
@@ -175,6 +208,7 @@ module _ (words : List (List ℕ)) (old new : Devices) (result : Ending) (o : Is
       by (usage none stay silent) = absurd (omega (arith, four_kind, ap kind silent.cause_is))
       by (unread why silent) = absurd (omega (arith, four_kind, ap kind silent.cause_is))
       by (refused why silent) = absurd (omega (arith, four_kind, ap kind silent.cause_is))
+      by (checked refusal why silent) = absurd (omega (arith, four_kind, ap kind silent.cause_is))
       by (ran why) =
           record {
             output = o.output;
@@ -197,6 +231,7 @@ module _ (words : List (List ℕ)) (old new : Devices) (result : Ending) (o : Is
       nothing (usage none stay silent) = silent.output_is
       nothing (unread why silent) = silent.output_is
       nothing (refused why silent) = silent.output_is
+      nothing (checked refusal why silent) = silent.output_is
       nothing (ran why) = absurd (not_run (kind_of_run result (ap kind written.0 ∙ ran_kind words old.files o.cause o.output why)))
       nothing (no_memory why silent) = silent.output_is
 
@@ -211,6 +246,7 @@ module _ (words : List (List ℕ)) (old new : Devices) (result : Ending) (o : Is
   says_ending = record {
     ran = ran_is;
     refused = refused_is;
+    checked = checked_is;
     usage = usage_is;
     no_command = no_command_is;
     files_stay = λ none. (of_no_command none).1;

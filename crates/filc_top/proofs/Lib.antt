@@ -2,3 +2,4 @@ pub mod Pieces
 pub mod Causes
 pub mod Words
 pub mod Clauses
+pub mod Refusals

@@ -1,11 +1,11 @@
 -- What the headline says of each ending by itself.
 use Rattle.std.specs.Prelude.{◌≡◌, ◌⊎◌, ℕ, List, []}
 use Rattle.filc_io.specs.Counts.{HasRisen}
-use Rattle.filc_io.specs.Outside.{Takes}
+use Rattle.filc_io.specs.Outside.{FilesState, Takes}
 use Rattle.filc_num.specs.declared.refusal.Refusal.{Refusal}
-use Rattle.filc_top.specs.Commands.{IsNoCommand}
+use Rattle.filc_top.specs.Commands.{IsCheck, IsNoCommand}
 use Rattle.filc_top.specs.Endings.{line_of, not_built}
-use Rattle.filc_top.specs.Headline.{Streams, Devices, HasRun, HasNoForm, HasNotRead}
+use Rattle.filc_top.specs.Headline.{Streams, Devices, HasRun, HasNoForm, HasRefusal, HasNotRead}
 use Rattle.filc_top.specs.declared.ending.Ending.{Ending}
 use Rattle.filc_top.specs.declared.ending.Ending.TheVariants as ending
 
@@ -38,10 +38,22 @@ pub record HasRunWhole (words : List (List ℕ)) (old new : Devices) (result : E
 abbrev pub HasWriteFault : Streams → Streams → Type 0
 HasWriteFault old new = HasRisen old.out.faults new.out.faults ⊎ HasRisen old.err.faults new.err.faults
 
+-- how a call ends that checks a file
+abbrev pub EndsChecking : List (List ℕ) → FilesState → Ending → Type 0
+EndsChecking words files (ending.Refused refusal) = HasRefusal words files refusal
+EndsChecking words files ending.ReadFault = Unit {0}
+EndsChecking words files ending.WriteFault = Unit {0}
+EndsChecking words files ending.NoMemory = Unit {0}
+EndsChecking words files other = ⊥
+
 -- each ending by itself
 pub record SaysEnding (words : List (List ℕ)) (old new : Devices) (result : Ending) : Type 0 where
   pub ran : IsOfRun result → HasRunWhole words old new result
-  pub refused : (refusal : Refusal) → result ≡ ending.Refused refusal → (refusal ≡ not_built) × HasNoForm words old.files
+  pub refused :
+      (refusal : Refusal) → result ≡ ending.Refused refusal →
+      ((refusal ≡ not_built) × HasNoForm words old.files) ⊎ HasRefusal words old.files refusal
+  -- words that check a file run nothing, and end with its refusal where nothing fails
+  pub checked : (name : List ℕ) → IsCheck words name → EndsChecking words old.files result
   pub usage : result ≡ ending.Usage → IsNoCommand words
   pub no_command : IsNoCommand words → (result ≡ ending.Usage) ⊎ (result ≡ ending.WriteFault)
   pub files_stay : IsNoCommand words → new.files ≡ old.files

@@ -2,6 +2,7 @@
 use Rattle.std.specs.Prelude.{◌≡◌, ℕ, ◌<◌, ◌≤◌, Bool, false, List, [], ◌∷◌, length, Option, Some, None, codes, ◌==◌}
 use Rattle.std.specs.Fmt.{decimal}
 use Rattle.filc_top.specs.declared.command.Command.{Command}
+use Rattle.filc_top.specs.declared.command.Command.TheVariants.{Run, Check}
 
 -- whether a dash begins the word
 abbrev pub begins_with_dash : List ℕ → Bool
@@ -24,13 +25,20 @@ pub data IsRun (words : List (List ℕ)) (name : List ℕ) (turns : ℕ) : Type 
   before : words ≡ codes "run" ∷ codes "--turns" ∷ decimal turns ∷ name ∷ [] → IsFileName name → IsTurns turns → IsRun words name turns
   after : words ≡ codes "run" ∷ name ∷ codes "--turns" ∷ decimal turns ∷ [] → IsFileName name → IsTurns turns → IsRun words name turns
 
+-- `check FILE`: these words check this file
+pub record IsCheck (words : List (List ℕ)) (name : List ℕ) : Type 0 where
+  pub words_are : words ≡ codes "check" ∷ name ∷ []
+  pub name_is : IsFileName name
+
 -- the words are no command
-abbrev pub IsNoCommand : List (List ℕ) → Type 0
-IsNoCommand words = (name : List ℕ) (turns : ℕ) → IsRun words name turns → ⊥
+pub record IsNoCommand (words : List (List ℕ)) : Type 0 where
+  pub runs_none : (name : List ℕ) (turns : ℕ) → IsRun words name turns → ⊥
+  pub checks_none : (name : List ℕ) → IsCheck words name → ⊥
 
 -- the command that the words are, where they are one
 abbrev pub IsCommandOf : List (List ℕ) → Option Command → Type 0
-IsCommandOf words (Some command) = IsRun words command.name.now command.turns
+IsCommandOf words (Some (Run name turns)) = IsRun words name.now turns
+IsCommandOf words (Some (Check name)) = IsCheck words name.now
 IsCommandOf words None = IsNoCommand words
 
 -- the number of turns that the word spells, where it spells one
@@ -40,6 +48,6 @@ IsTurnsOf word None = (turns : ℕ) → IsTurns turns → word ≡ decimal turns
 
 -- the file of this name for so many turns as the word spells, where the one is a name and the other spells turns
 abbrev pub IsFileFor : List ℕ → List ℕ → Option Command → Type 0
-IsFileFor name word (Some command) =
-    (command.name.now ≡ name) × IsFileName name × IsTurns command.turns × (word ≡ decimal command.turns)
+IsFileFor name word (Some (Run file turns)) = (file.now ≡ name) × IsFileName name × IsTurns turns × (word ≡ decimal turns)
+IsFileFor name word (Some (Check file)) = ⊥
 IsFileFor name word None = IsFileName name → (turns : ℕ) → IsTurns turns → word ≡ decimal turns → ⊥

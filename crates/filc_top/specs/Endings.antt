@@ -5,6 +5,11 @@ use Rattle.filc_num.specs.Reasons.{text_of}
 use Rattle.filc_num.specs.Refusals.{refusal_text}
 use Rattle.filc_num.specs.declared.refusal.Refusal.{Refusal}
 use Rattle.filc_num.specs.declared.refusal.RefusalKind.TheVariants.{Rule}
+use Rattle.filc_num.specs.declared.refusal.RefusalKind.TheVariants as kind
+use Rattle.c_front.specs.declared.fault.FrontFault.{FrontFault}
+use Rattle.c_front.specs.declared.fault.FrontFault.TheVariants as front
+use Rattle.c_parser.specs.declared.fault.ParseFault.{ParseFault}
+use Rattle.c_parser.specs.declared.fault.ParseFault.TheVariants as parser
 use Rattle.filc_top.specs.declared.ending.Ending.{Ending}
 use Rattle.filc_top.specs.declared.ending.Ending.TheVariants.{Exited, Listed, Refused, Trapped, Deadlock, Spent, InputLimit, ReadFault, WriteFault, Usage, NoMemory}
 
@@ -43,3 +48,14 @@ line_of InputLimit = codes "filc: input too long\n"
 line_of (Trapped reason line) = codes "filc: trap: " ++ at_line (text_of reason) line
 line_of Deadlock = codes "filc: deadlock\n"
 line_of Spent = codes "filc: turns spent\n"
+
+-- how a call ends whose file was not carried to its parser
+abbrev pub of_front : FrontFault → Ending
+of_front (front.Refused refusal) = Refused refusal
+of_front front.NoMemory = NoMemory
+
+-- how a call ends whose file has no tree
+abbrev pub of_parser : ParseFault → Ending
+of_parser (parser.Syntax line) = Refused (record { kind = kind.Syntax; line = line })
+of_parser (parser.Deep line) = Refused (record { kind = kind.Deep; line = line })
+of_parser parser.NoMemory = NoMemory

@@ -22,7 +22,9 @@ use Rattle.form_play.specs.Observable.{bytes_of, finish_of}
 use Rattle.code_gen.specs.Code.{program_code}
 use Rattle.code_gen.specs.Correct.{Plays}
 use Rattle.single_thread.specs.Alone.{run_world, history_of_run, stop_of_run}
-use Rattle.filc_top.specs.Commands.{IsRun, IsNoCommand}
+use Rattle.filc_num.specs.declared.refusal.Refusal.{Refusal}
+use Rattle.filc_top.specs.Checking.{IsRefusedFile}
+use Rattle.filc_top.specs.Commands.{IsRun, IsCheck, IsNoCommand}
 use Rattle.filc_top.specs.Endings.{line_of, not_built}
 use Rattle.filc_top.specs.Writing.{FailsWithin}
 use Rattle.filc_top.specs.declared.ending.Ending.{Ending}
@@ -86,11 +88,15 @@ pub record IsRunOf (program : PlainProgram) (turns : ℕ) (cause : Ending) (outp
 
 -- ---- why a call ends
 
+-- the words are a command for the file of this name
+pub data NamesFile (words : List (List ℕ)) (name : List ℕ) : Type 0 where
+  to_run : (turns : ℕ) → IsRun words name turns → NamesFile words name
+  to_check : IsCheck words name → NamesFile words name
+
 -- the file was not read: the files failed, or none has the name
 pub record HasNotRead (words : List (List ℕ)) (old new : FilesState) : Type 0 where
   pub name : List ℕ
-  pub turns : ℕ
-  pub words_are : IsRun words name turns
+  pub words_are : NamesFile words name
   pub why : HasRisen old.faults new.faults ⊎ HasNoFile old.contents name
 
 -- the file is not of the form
@@ -109,11 +115,18 @@ pub record HasRun (words : List (List ℕ)) (files : FilesState) (cause : Ending
   pub form : HasForm file program
   pub run : IsRunOf program turns cause output
 
--- the words run a file
+-- the words check a file that is refused
+pub record HasRefusal (words : List (List ℕ)) (files : FilesState) (refusal : Refusal) : Type 0 where
+  pub name : List ℕ
+  pub file : List ℕ
+  pub words_are : IsCheck words name
+  pub file_is : IsFile files.contents name file
+  pub why : IsRefusedFile file refusal
+
+-- the words are a command for a file
 pub record HasCommand (words : List (List ℕ)) : Type 0 where
   pub name : List ℕ
-  pub turns : ℕ
-  pub words_are : IsRun words name turns
+  pub words_are : NamesFile words name
 
 -- this is the cause, and nothing was put out
 pub record IsSilent (wanted cause : Ending) (output : List ℕ) : Type 0 where
@@ -128,9 +141,13 @@ pub data IsCause (words : List (List ℕ)) (old new : FilesState) (cause : Endin
   -- the file was not read
   unread :
       HasNotRead words old new → IsSilent ending.ReadFault cause output → IsCause words old new cause output
-  -- the file is not of the form
+  -- the file that should run is not of the form
   refused :
       HasNoForm words old → IsSilent (ending.Refused not_built) cause output → IsCause words old new cause output
+  -- the file was checked, and is refused
+  checked :
+      (refusal : Refusal) → HasRefusal words old refusal → IsSilent (ending.Refused refusal) cause output →
+      IsCause words old new cause output
   -- its program was run
   ran : HasRun words old cause output → IsCause words old new cause output
   -- there was no memory for it, before the first turn

@@ -1,5 +1,6 @@
 pub mod Commands
 pub mod Endings
+pub mod Checking
 pub mod Writing
 pub mod Headline
 pub mod Clauses

@@ -1,14 +1,26 @@
 -- What each step of a call hands to the next, or how it ends the call.
-use Rattle.std.specs.Prelude.{◌≡◌, ◌⊎◌, ℕ, List, take}
+use Rattle.std.specs.Prelude.{◌≡◌, ◌⊎◌, ℕ, List, Ok, take}
 use Rattle.filc_io.specs.Counts.{HasRisen}
 use Rattle.filc_io.specs.Outside.{FilesState}
 use Rattle.filc_io.specs.declared.outside.TheConstants.{MOST_READ}
 use Rattle.form_tree.specs.Plain.{PlainProgram}
 use Rattle.form_reader.specs.Form.{HasForm}
+use Rattle.c_lexer.specs.declared.token.Token.{Token}
+use Rattle.c_front.specs.Phases.{expanded_tokens_of}
+use Rattle.c_syntax.specs.declared.file.File.{File}
+use Rattle.c_parser.specs.Parse.{IsTree}
+use Rattle.filc_top.specs.Checking.{token_bytes, IsRefusedFile}
 use Rattle.filc_top.specs.Endings.{not_built}
-use Rattle.filc_top.specs.Headline.{IsFile, HasNoFile}
+use Rattle.filc_top.specs.Headline.{IsFile, HasNoFile, IsRunOf}
+use Rattle.filc_top.specs.declared.command.Command.{Command}
+use Rattle.filc_top.specs.declared.command.Command.TheVariants.{Run, Check}
 use Rattle.filc_top.specs.declared.ending.Ending.{Ending}
 use Rattle.filc_top.specs.declared.ending.Ending.TheVariants as ending
+
+-- the name of the file that a command is for
+abbrev pub name_in : Command → List ℕ
+name_in (Run name turns) = name.now
+name_in (Check name) = name.now
 
 -- this is the front of the file of this name, as far as the files are told
 pub record HasRead (files : FilesState) (name read : List ℕ) : Type 0 where
@@ -27,3 +39,19 @@ abbrev pub EndsFrontEnd : List ℕ → Ending → Type 0
 EndsFrontEnd file (ending.Refused refusal) = (refusal ≡ not_built) × ((program : PlainProgram) → HasForm file program → ⊥)
 EndsFrontEnd file ending.NoMemory = Unit {0}
 EndsFrontEnd file other = ⊥
+
+-- checking the file ends the call so
+abbrev pub EndsCheck : List ℕ → Ending → Type 0
+EndsCheck file (ending.Refused refusal) = IsRefusedFile file refusal
+EndsCheck file ending.NoMemory = Unit {0}
+EndsCheck file other = ⊥
+
+-- these are the tree and the tokens of the file
+abbrev pub HasTree : List ℕ → File → Type 0
+HasTree file tree = (tokens : List Token) × (expanded_tokens_of file ≡ Ok tokens) × IsTree (token_bytes file) tokens tree
+
+-- the file is of the form, and a run of its program ends so and puts this out
+pub record RunsForm (file : List ℕ) (turns : ℕ) (cause : Ending) (output : List ℕ) : Type 0 where
+  pub program : PlainProgram
+  pub form : HasForm file program
+  pub run : IsRunOf program turns cause output

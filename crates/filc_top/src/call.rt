@@ -5,11 +5,14 @@ ghost use Rattle.form_reader.specs.Form.{HasForm};
 ghost use Rattle.filc_top.specs.Clauses.{SaysEnding};
 ghost use Rattle.filc_top.specs.Commands.{IsNoCommand};
 ghost use Rattle.filc_top.specs.Headline.{devices, streams, ending_of, IsSilent, IsCause, IsRunOf, IsWritten, IsOutcome};
-ghost use Rattle.filc_top.specs.Steps.{HasRead, EndsReading, EndsFrontEnd};
+ghost use Rattle.filc_top.specs.Steps.{name_in, HasRead, EndsReading, EndsFrontEnd, EndsCheck, RunsForm, HasTree};
 
-use crate::command::command_of;
+use crate::command::{Command, command_of};
 use crate::ending::{Ending, NOT_BUILT};
 use crate::lines::write_line;
+use c_front::expanded_tokens;
+use c_parser::parse;
+use c_syntax::File;
 use code_gen::compile;
 use code_thread::CodeThread;
 use filc_io::{FileFault, Files, Sink, Source, write_all_of};
@@ -54,17 +57,26 @@ fn cause_of<F: Files>(alloc: Global, words: &[&str], files: &mut F, output: &mut
     let Some(command) = command_of(words) else {
         return Ending::Usage;
     };
-    let file = match front_of_file(alloc, files, command.name) {
+    let file = match front_of_file(alloc, files, name_of(&command)) {
         Ok(file) => file,
         Err(cause) => return cause,
     };
-    let program = match program_of(alloc, &file) {
-        Ok(program) => program,
-        Err(cause) => return cause,
-    };
-    match run_of(alloc, &program, command.turns, output) {
-        Ok(ending) => ending,
-        Err(cause) => cause,
+    match command {
+        Command::Run(_, turns) => match run_of_file(alloc, &file, turns, output) {
+            Ok(ending) => ending,
+            Err(cause) => cause,
+        },
+        Command::Check(_) => check_of_file(alloc, &file),
+    }
+}
+
+/// The name of the file that a command is for.
+fn name_of<'a>(command: &Command<'a>) -> &'a str
+    ensures { result.now ≡ name_in command.now }
+{
+    match command {
+        Command::Run(name, _) => name,
+        Command::Check(name) => name,
     }
 }
 
@@ -91,6 +103,43 @@ fn program_of(alloc: Global, file: &[u8]) -> Result<Program, Ending>
         Ok(program) => Ok(program),
         Err(ReadFault::NotForm) => Err(Ending::Refused(NOT_BUILT)),
         Err(ReadFault::NoMemory) => Err(Ending::NoMemory),
+    }
+}
+
+/// Reads the program that a file is, and runs it for so many turns at most.
+fn run_of_file(
+    alloc: Global,
+    file: &[u8],
+    turns: u32,
+    output: &mut Vec<u8>,
+) -> Result<Ending, Ending>
+    requires { output.old.items ≡ [] }
+    ensures ran { IfOk result (λ ending. RunsForm file.now turns ending output.new.items) }
+    ensures ended { IfErr result (EndsFrontEnd file.now) }
+    ensures silent { IfErr result (λ cause. output.new.items ≡ []) }
+{
+    let program = program_of(alloc, file)?;
+    let ending = run_of(alloc, &program, turns, output)?;
+    Ok(ending)
+}
+
+/// The phases of the front end, up to the tree that a file spells.
+fn tree_of(alloc: Global, file: &[u8]) -> Result<File, Ending>
+    ensures tree { IfOk result (HasTree file.now) }
+    ensures ended { IfErr result (EndsCheck file.now) }
+{
+    let tokens = expanded_tokens(alloc, file)?;
+    let tree = parse(alloc, &tokens)?;
+    Ok(tree)
+}
+
+/// How the check of a file ends. What has a tree is refused until the rules of the language are looked at.
+fn check_of_file(alloc: Global, file: &[u8]) -> Ending
+    ensures { EndsCheck file.now result }
+{
+    match tree_of(alloc, file) {
+        Ok(_) => Ending::Refused(NOT_BUILT),
+        Err(ending) => ending,
     }
 }
 

@@ -11,11 +11,13 @@ pub const DEFAULT_TURNS: u32 = 100_000_000;
 /// The most turns of a run.
 pub const MOST_TURNS: u32 = 1_000_000_000;
 
-/// A file to be run, and for how many turns at most.
+/// What the words ask for.
 #[derive(Clone, Copy, Debug)]
-pub struct Command<'a> {
-    pub name: &'a str,
-    pub turns: u32,
+pub enum Command<'a> {
+    /// The file of this name is run, for so many turns at most.
+    Run(&'a str, u32),
+    /// The file of this name is checked.
+    Check(&'a str),
 }
 
 /// The command that the words are, where they are one.
@@ -32,19 +34,19 @@ pub fn command_of<'a>(words: &'a [&'a str]) -> Option<Command<'a>>
 }
 
 /// The command that two words are, where they are one.
-fn of_two<'a>(run: &str, name: &'a str) -> Option<Command<'a>>
-    ensures { IsCommandOf (run.now ∷ name.now ∷ []) result }
+fn of_two<'a>(command: &str, name: &'a str) -> Option<Command<'a>>
+    ensures { IsCommandOf (command.now ∷ name.now ∷ []) result }
 {
-    if run != "run" {
-        return None;
-    }
     if !is_file_name(name) {
         return None;
     }
-    Some(Command {
-        name,
-        turns: DEFAULT_TURNS,
-    })
+    if command == "run" {
+        return Some(Command::Run(name, DEFAULT_TURNS));
+    }
+    if command == "check" {
+        return Some(Command::Check(name));
+    }
+    None
 }
 
 /// The command that four words are, where they are one.
@@ -71,7 +73,7 @@ fn with_turns<'a>(name: &'a str, word: &str) -> Option<Command<'a>>
         return None;
     }
     let turns = turns_of(word)?;
-    Some(Command { name, turns })
+    Some(Command::Run(name, turns))
 }
 
 /// Whether a word may be the name of a file.

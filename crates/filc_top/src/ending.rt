@@ -3,6 +3,8 @@
 ghost use Rattle.std.specs.Prelude.{◌≡◌};
 ghost use Rattle.filc_top.specs.Endings.{status_of};
 
+use c_front::FrontFault;
+use c_parser::ParseFault;
 use filc_num::{Reason, Refusal, RefusalKind};
 use std::alloc::AllocError;
 
@@ -40,6 +42,39 @@ impl From<AllocError> for Ending {
 
     fn from(_error: AllocError) -> Ending {
         Ending::NoMemory
+    }
+}
+
+impl From<FrontFault> for Ending {
+    ghost use Rattle.filc_top.specs.Endings.{of_front};
+
+    ghost from_gives = { λ fault ending. ending ≡ of_front fault };
+
+    fn from(fault: FrontFault) -> Ending {
+        match fault {
+            FrontFault::Refused(refusal) => Ending::Refused(refusal),
+            FrontFault::NoMemory => Ending::NoMemory,
+        }
+    }
+}
+
+impl From<ParseFault> for Ending {
+    ghost use Rattle.filc_top.specs.Endings.{of_parser};
+
+    ghost from_gives = { λ fault ending. ending ≡ of_parser fault };
+
+    fn from(fault: ParseFault) -> Ending {
+        match fault {
+            ParseFault::Syntax(line) => Ending::Refused(Refusal {
+                kind: RefusalKind::Syntax,
+                line,
+            }),
+            ParseFault::Deep(line) => Ending::Refused(Refusal {
+                kind: RefusalKind::Deep,
+                line,
+            }),
+            ParseFault::NoMemory => Ending::NoMemory,
+        }
     }
 }
 

@@ -6,6 +6,7 @@
 mod call;
 mod command;
 mod ending;
+pub mod laws;
 mod lines;
 
 pub use call::filc;

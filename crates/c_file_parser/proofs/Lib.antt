@@ -1,0 +1,4 @@
+pub mod Rooms
+pub mod Scoped
+pub mod Wholes
+pub mod BodyScopes

@@ -1,0 +1,17 @@
+-- What a loop has read so far, and what it is to read yet.
+use Rattle.std.proofs.Common.{◌≡◌, ◌-◌, ◌∷◌, [], length}
+use Rattle.c_parts.specs.declared.terminal.Terminal.TheVariants as t
+use Rattle.c_parts.specs.Production.{optional}
+use Rattle.c_parts.specs.Reading.{repeat, change}
+use Rattle.c_parts.specs.Kinds.{has}
+use Rattle.c_cursor.specs.Input.{answer}
+use Rattle.c_cursor.proofs.Loops.{kept}
+use Rattle.c_syntax.specs.Values.{present}
+use Rattle.c_syntax.specs.Grammar as grammar
+use Rattle.c_syntax.specs.Grammar.{inner}
+use Rattle.c_syntax.specs.Files as spec
+use Rattle.c_syntax.specs.Files.{bodies}
+use Rattle.c_file_parser.proofs.rules.Rules.more_initialisers.Given as goal
+
+abbrev pub invariant-more : goal.invariant-more
+invariant-more g l = kept present (has (t.Comma ∷ [])) (grammar.comma_and (optional (spec.initialiser_part (inner l.self.room) (bodies l.self.room)))).read (length l.initial.cursor.rest - l._turn) l.cursor l.more ≡ answer (change present (repeat (has (t.Comma ∷ [])) (grammar.comma_and (optional (spec.initialiser_part (inner l.self.room) (bodies l.self.room)))).read)) l.initial.cursor

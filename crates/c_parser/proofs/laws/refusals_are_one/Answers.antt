@@ -1,0 +1,5 @@
+use Rattle.c_parser.proofs.OneRefusal.{one}
+use Rattle.c_parser.proofs.laws.refusals_are_one.Goals as goal
+
+pub returns : goal.returns
+returns c = one c.file_prefixes_begin.ensures

@@ -1,0 +1,5 @@
+use Rattle.filc_top.proofs.Refusals.{one_of_each}
+use Rattle.filc_top.proofs.laws.files_have_one_refusal.Goals as goal
+
+pub returns : goal.returns
+returns c = one_of_each c.refusals_are_one.ensures
