@@ -58,5 +58,6 @@ module _ (old now new : List Entry) (standing : Standing) (specifiers : Specifie
   declared said k is-said made h = record {
     said = subst (IsSpecified new standing (out-Specifiers specifiers).list found.whole) (sym h.of_said) (IsSpecified-keeps now new standing (out-Specifiers specifiers).list found.whole said k is-said);
     ty = subst (λ (s : Specification). IsDerived new s.ty (derivations_in found.known found.outermost d) made.ty) (sym h.of_said) h.ty;
+    sound = subst (λ (s : Specification). rule_of_declarator new s.ty found.known found.outermost d ≡ None) (sym h.of_said) h.sound;
     name = h.name;
   }

@@ -65,10 +65,11 @@ abbrev pub fault_at : ℕ → DeclarationFault → CheckFault
 fault_at line (fault.Broken broken) = check.Rule line broken
 fault_at line fault.NoMemory = check.NoMemory
 
--- what a declarator declares over what its specifiers say
+-- what a declarator declares over what its specifiers say; it breaks no rule
 pub record IsDeclaredBy (table : List Entry) (said : Specification) (found : Found) (d : Declarator) (made : Declaration) : Type 0 where
   pub of_said : made.said ≡ said
   pub ty : IsDerived table said.ty (derivations_in found.known found.outermost d) made.ty
+  pub sound : rule_of_declarator table said.ty found.known found.outermost d ≡ None
   pub name : made.name ≡ (out-Declarator d).name
 
 -- why it declares nothing: it breaks this rule, at the line of its first token
@@ -76,10 +77,11 @@ abbrev pub IsFaultBy : List Entry → Specification → Found → Declarator →
 IsFaultBy table said found d (check.Rule line broken) = (line ≡ (out-Declarator d).span.line) × (rule_of_declarator table said.ty found.known found.outermost d ≡ Some broken)
 IsFaultBy table said found d check.NoMemory = Unit {0}
 
--- what is declared: what the specifiers say, and the type that the declarator makes of theirs
+-- what is declared: what the specifiers say, and the type that the declarator makes of theirs, by which it breaks no rule
 pub record IsDeclared (table : List Entry) (standing : Standing) (specifiers : Specifiers) (found : Found) (d : Declarator) (made : Declaration) : Type 0 where
   pub said : IsSpecified table standing (out-Specifiers specifiers).list found.whole made.said
   pub ty : IsDerived table made.said.ty (derivations_in found.known found.outermost d) made.ty
+  pub sound : rule_of_declarator table made.said.ty found.known found.outermost d ≡ None
   pub name : made.name ≡ (out-Declarator d).name
 
 -- the declarator breaks this rule over the type that the specifiers name

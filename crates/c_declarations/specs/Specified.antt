@@ -63,8 +63,14 @@ rule_of_whole table None set = Some rule.BadSpecifiers
 rule_of_whole table (Some (Err broken)) set = Some broken
 rule_of_whole table (Some (Ok part)) set = rule_of_type (type_in table part.number) set
 
+-- the rule of words that name no type, beside the one that was found at a specifier that is a type by itself
+abbrev pub rule_beside : Option (Result Part Rule) → Rule
+rule_beside None = rule.BadSpecifiers
+rule_beside (Some (Ok part)) = rule.BadSpecifiers
+rule_beside (Some (Err broken)) = lower_of broken rule.BadSpecifiers
+
 abbrev pub rule_of_named : List Entry → Option (Result Part Rule) → Qualifiers → Option Named → Option Rule
-rule_of_named table whole set None = Some rule.BadSpecifiers
+rule_of_named table whole set None = Some (rule_beside whole)
 rule_of_named table whole set (Some (named.Basic ty)) = rule_of_basic ty set
 rule_of_named table whole set (Some named.Whole) = rule_of_whole table whole set
 

@@ -151,6 +151,10 @@ fn derived(
 /// What specifiers and a declarator declare: a storage class, function specifiers, a type and a name. The fault is
 /// the first rule that the specifiers break, or else the first that the declarator breaks, with the line of its
 /// first token. It takes time linear in both.
+///
+/// Sizes and parameters inside the declarator are told as they were worked out before, with faults of their own.
+/// `standing` says where the declaration stands: in a block it takes in whether a function is declared, which a
+/// typedef can decide, so a caller who doesn't know asks with what this call gives.
 pub fn declaration_of(
     alloc: Global,
     types: &mut Types,

@@ -4,7 +4,7 @@ ghost use Rattle.std.specs.Prelude.{◌≡◌, ◌↔◌, Some, None, IfOk, IfEr
 ghost use Rattle.c_types.specs.declared.entry.Entry.TheVariants.{OfType};
 ghost use Rattle.c_types.specs.Declarators.{Keeps, IsPlain};
 ghost use Rattle.c_types.specs.Whole.{IsPart};
-ghost use Rattle.c_declarations.specs.Specified.{lowest, rule_of_storage, rule_of_basic, rule_of_whole, rule_of_named, storage_in_list, named_in_list, rule_of_words, rule_of_specifiers, IsNamed, IsNamedWith, WholeFits, AreWords, IsSaid, IsSpecified, IsCause};
+ghost use Rattle.c_declarations.specs.Specified.{lowest, rule_of_storage, rule_of_basic, rule_of_whole, rule_beside, rule_of_named, storage_in_list, named_in_list, rule_of_words, rule_of_specifiers, IsNamed, IsNamedWith, WholeFits, AreWords, IsSaid, IsSpecified, IsCause};
 
 use crate::fault::DeclarationFault;
 use bitflags::Flags;
@@ -110,6 +110,16 @@ fn rule_of_whole(types: &Types, whole: Option<Result<Part, Rule>>, set: Qualifie
     }
 }
 
+/// The rule of words that name no type, beside the one that was found at a type by itself.
+fn rule_beside(whole: Option<Result<Part, Rule>>) -> Rule
+    ensures { result ≡ rule_beside whole }
+{
+    match whole {
+        Some(Err(broken)) => broken.lower_of(Rule::BadSpecifiers),
+        Some(Ok(_)) | None => Rule::BadSpecifiers,
+    }
+}
+
 fn rule_of_named(
     types: &Types,
     whole: Option<Result<Part, Rule>>,
@@ -119,7 +129,7 @@ fn rule_of_named(
     ensures { result ≡ rule_of_named types.now whole set named }
 {
     match named {
-        None => Some(Rule::BadSpecifiers),
+        None => Some(rule_beside(whole)),
         Some(Named::Basic(ty)) => rule_of_basic(ty, set),
         Some(Named::Whole) => rule_of_whole(types, whole, set),
     }
