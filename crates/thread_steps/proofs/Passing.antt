@@ -9,7 +9,7 @@ use Rattle.ideal_machine.specs.Values.{zero_value, value_at}
 use Rattle.whole_thread.specs.Standing.{first_registers}
 use Rattle.thread_steps.specs.declared.activation.Activation.{Activation}
 use Rattle.thread_steps.specs.Blocks.{frame_registers, caller_of, callers_of, no_activation}
-use Rattle.thread_steps.specs.Passing.{passed_at, begun_at}
+use Rattle.thread_steps.specs.Passing.{callee_register, first_register}
 use Rattle.thread_steps.proofs.Blocks.{value_at_get, frame_value, get_take}
 use Rattle.thread_steps.proofs.Standing.{first_long}
 
@@ -108,7 +108,7 @@ passed_by_same true rs ts from given k e same = same (lt_holds k given e)
 passed_by_same false rs ts from given k e same = refl
 
 -- what is passed is the same of blocks with the same arguments
-pub passed_same : (rs ts : List Value) (from given k : ℕ) → (k < given → value_at rs (from + k) ≡ value_at ts (from + k)) → passed_at rs from given k ≡ passed_at ts from given k
+pub passed_same : (rs ts : List Value) (from given k : ℕ) → (k < given → value_at rs (from + k) ≡ value_at ts (from + k)) → callee_register rs from given k ≡ callee_register ts from given k
 passed_same rs ts from given k same = passed_by_same (nat_lt k given) rs ts from given k refl same
 
 less_or_same : (n k : ℕ) → n < k + 1 → (n < k) ⊎ (n ≡ k)
@@ -152,7 +152,7 @@ module _ (old : List Value) (depth first count : ℕ) (f : PlainFunction) (value
   -- the frame that is filled so is the callee's first
   pub frame_filled : (new : List Value) → length new ≡ 262144 → depth + 1 < 1024 → f.values ≤ 256 →
       ((i : ℕ) → i < count → first + i < length frame) →
-      ((k : ℕ) → k < f.values → value_at new (256 * depth + 256 + k) ≡ passed_at old (256 * depth + first) (min f.parameters count) k) →
+      ((k : ℕ) → k < f.values → value_at new (256 * depth + 256 + k) ≡ callee_register old (256 * depth + first) (min f.parameters count) k) →
       frame_registers new (suc depth) f.values ≡ first_registers f arguments
   frame_filled new long deep few have filled =
       let full : length (frame_registers new (suc depth) f.values) ≡ f.values = frame_full new (suc depth) f.values long (omega (arith, deep)) few in
@@ -183,7 +183,7 @@ begun_by false f argument k e =
 
 -- the frame that is filled so is the first one of a thread
 pub first_filled : (f : PlainFunction) (argument : Value) (rs : List Value) → length rs ≡ 262144 → f.values ≤ 256 →
-    ((k : ℕ) → k < f.values → value_at rs k ≡ begun_at argument (min f.parameters 1) k) →
+    ((k : ℕ) → k < f.values → value_at rs k ≡ first_register argument (min f.parameters 1) k) →
     frame_registers rs 0 f.values ≡ first_registers f (argument ∷ [])
 first_filled f argument rs long few filled =
     let full : length (frame_registers rs 0 f.values) ≡ f.values = frame_full rs 0 f.values long (omega arith) few in

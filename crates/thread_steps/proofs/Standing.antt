@@ -17,7 +17,7 @@ use Rattle.whole_thread.specs.declared.stage.Want.TheVariants as want
 use Rattle.whole_thread.specs.Standing.{Frame, Caller, Standing, room, further_activations, first_registers, register, with_register, at_index, onward}
 use Rattle.whole_thread.specs.Act.{caller_at, entering, behind_call}
 use Rattle.whole_thread.specs.Thread.{Thread, before, here, want_of, want_by, want_at, leave_of, return_of, stage_of, begins_at, thread_after_poll}
-use Rattle.thread_steps.specs.Stands.{IsFrameOf, IsCallerOf, StandsIn, BeginStands, StepStands, AnswerStands, PollStands, HasInstruction}
+use Rattle.thread_steps.specs.Stands.{IsFrameOf, IsCallerOf, StandsIn, BeginStands, StepStands, AnswerStands, PollStands, InstructionIsThere}
 use Rattle.thread_steps.proofs.Kept.{Within, Stays, StaysBy, answer_by_keeps, step_at_keeps}
 
 -- ---- lists
@@ -188,7 +188,7 @@ pub answer_stands : AnswerStands
 answer_stands code thread answer formed h =
     answer_by_keeps code thread (StandsIn code) (here code thread) (stays_by code formed thread h (here code thread) refl) answer
 
-pub has_instruction : HasInstruction
+pub has_instruction : InstructionIsThere
 has_instruction code thread h =
     let i = get_within h.frame.running.instructions thread.at.frame.index h.frame.inside in
     (i.0, ap (λ o. option_and_then (λ (f : PlainFunction). slice_get f.instructions thread.at.frame.index) o) h.frame.there ∙ i.1)

@@ -4,9 +4,9 @@ use Rattle.ideal_machine.specs.declared.value.Value.{Value}
 use Rattle.ideal_machine.specs.Values.{zero_value, value_at}
 
 -- the value of the callee's register k, of which the first `given` are in the caller's registers from a place of the block on
-abbrev pub passed_at : List Value → (from given k : ℕ) → Value
-passed_at registers from given k = if nat_lt k given then value_at registers (from + k) else zero_value
+abbrev pub callee_register : List Value → (from given k : ℕ) → Value
+callee_register registers from given k = if nat_lt k given then value_at registers (from + k) else zero_value
 
 -- the value of the register k of a thread's first function, of which the first `given` have the argument
-abbrev pub begun_at : Value → (given k : ℕ) → Value
-begun_at argument given k = if nat_lt k given then argument else zero_value
+abbrev pub first_register : Value → (given k : ℕ) → Value
+first_register argument given k = if nat_lt k given then argument else zero_value

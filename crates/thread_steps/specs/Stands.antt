@@ -76,8 +76,8 @@ FreedStands =
     register < register_count thread → StandsIn code thread → StandsIn code (thread_with_freed thread register)
 
 -- so there is an instruction where it stands
-abbrev pub HasInstruction : Type 0
-HasInstruction = (code : PlainCode) (thread : Thread) → StandsIn code thread → (i : Instruction) × (here code thread ≡ Some i)
+abbrev pub InstructionIsThere : Type 0
+InstructionIsThere = (code : PlainCode) (thread : Thread) → StandsIn code thread → (i : Instruction) × (here code thread ≡ Some i)
 
 -- the address of a place has 64 bits
 abbrev pub IsPlace : ℕ → Type 0

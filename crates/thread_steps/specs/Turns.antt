@@ -1,14 +1,15 @@
 -- One turn of a thread: it carries out its instruction where it wants to, and else it stays.
 use Rattle.std.specs.Prelude.{ℕ, ◌==◌, Bool, true, false, List, Option, Some, None, length, slice_index, if◌then◌else◌}
 use Rattle.whole_code.specs.declared.op.Op.{Op}
+use Rattle.whole_code.specs.declared.op.Op.TheVariants as op
 use Rattle.whole_code.specs.declared.op.Instruction.{Instruction}
 use Rattle.whole_code.specs.Plain.{PlainCode}
 use Rattle.whole_thread.specs.declared.stage.Want.{Want}
 use Rattle.whole_thread.specs.declared.stage.Want.TheVariants as want
 use Rattle.whole_thread.specs.declared.stage.Stage.{Stage}
 use Rattle.whole_thread.specs.declared.stage.Stage.TheVariants as stage
-use Rattle.whole_thread.specs.Standing.{trap_line}
-use Rattle.whole_thread.specs.Thread.{Thread, step_by, thread_after_step}
+use Rattle.whole_thread.specs.Standing.{trap_line, register, registers_from}
+use Rattle.whole_thread.specs.Thread.{Thread, calls, calls_half, step_by, thread_after_step}
 use Rattle.thread_steps.specs.Usable.{Room}
 
 -- an instruction is to be carried out on registers
@@ -20,6 +21,13 @@ is_instruction w = false
 abbrev pub is_before : Stage → Bool
 is_before stage.Before = true
 is_before s = false
+
+-- a thread after a call, by the function's number or by a pointer
+abbrev pub calls_by : PlainCode → Thread → (line : ℕ) → Op → Thread
+calls_by code thread line (op.Call d f first count) = calls code thread line d f (registers_from thread.at first count)
+calls_by code thread line (op.CallPointer d a first count kind) =
+    calls_half code thread line d kind (registers_from thread.at first count) (register thread.at a).half
+calls_by code thread line o = thread
 
 -- the place of each static object
 abbrev pub place_in : List ℕ → ℕ → ℕ

@@ -1,7 +1,7 @@
 //! A thread of well-formed code always stands at an instruction.
 
 ghost use Rattle.thread_steps.specs.Stands.{BeginStands, StepStands, AnswerStands, PollStands};
-ghost use Rattle.thread_steps.specs.Stands.{FreedStands, HasInstruction};
+ghost use Rattle.thread_steps.specs.Stands.{FreedStands, InstructionIsThere};
 
 /// A thread begins at an instruction, and stays at one by each step, answer and poll, and where a half
 /// is freed.
@@ -11,5 +11,5 @@ pub fn threads_stand_at_an_instruction()
     ensures answer { AnswerStands }
     ensures poll { PollStands }
     ensures freed { FreedStands }
-    ensures there { HasInstruction }
+    ensures there { InstructionIsThere }
 {}

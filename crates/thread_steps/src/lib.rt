@@ -7,6 +7,7 @@
 #![tactic(auto)]
 
 mod activation;
+mod constants;
 pub mod laws;
 #[cfg(test)]
 mod tests;

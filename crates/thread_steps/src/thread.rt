@@ -1,13 +1,14 @@
 //! A thread and its block of registers.
 
-ghost use Rattle.std.specs.Prelude.{◌≡◌, ◌+◌, ◌<◌, ◌^◌, length, true, IfOk, Some};
+ghost use Rattle.std.specs.Prelude.{◌≡◌, ◌+◌, ◌<◌, ◌^◌, length, true, IfOk, None, Some};
 ghost use Rattle.whole_code.specs.Plain.{PlainCode};
 ghost use Rattle.whole_thread.specs.Standing.{register, with_register, at_index};
 ghost use Rattle.whole_thread.specs.Thread.{goes_on, gets, at_stage, before};
-ghost use Rattle.whole_thread.specs.Thread.{here, want_of};
+ghost use Rattle.whole_thread.specs.Thread.{here, stage_of, want_of};
+ghost use Rattle.thread_steps.specs.declared.constants.TheConstants.{ACTIVATIONS, BLOCK};
 ghost use Rattle.thread_steps.specs.Short.{IsShortStage};
 ghost use Rattle.thread_steps.specs.Stands.{StandsIn, is_over};
-ghost use Rattle.thread_steps.specs.Turns.{room_of};
+ghost use Rattle.thread_steps.specs.Turns.{is_before, room_of};
 ghost use Rattle.thread_steps.specs.Usable.{IsUsable};
 ghost use Rattle.whole_thread.specs.declared.stage.Want.TheVariants as want;
 
@@ -20,6 +21,7 @@ mod step;
 mod want;
 
 use crate::activation::Activation;
+use crate::constants::{ACTIVATIONS, BLOCK};
 use ideal_machine::{Access, Half, Value};
 use std::alloc::{AllocError, Global};
 use std::marker::Model;
@@ -65,6 +67,7 @@ impl Model for CodeThread {
     ghost use Rattle.whole_thread.specs.Thread.{Thread};
     ghost use Rattle.thread_steps.specs.Blocks.{frame_registers, callers_of};
     ghost use Rattle.thread_steps.specs.Short.{IsShortRound, IsShortStage};
+    ghost use Rattle.thread_steps.specs.declared.constants.TheConstants.{ACTIVATIONS, BLOCK};
 
     ghost Value = { Thread };
 
@@ -84,15 +87,15 @@ impl Model for CodeThread {
       stage = t.stage;
     } };
 
-    ghost invariant = { λ t. (length t.registers.items ≡ 262144) × (length t.callers.items ≡ 1024)
-        × (t.depth < 1024) × (t.base ≡ REGISTERS * t.depth)
+    ghost invariant = { λ t. (length t.registers.items ≡ BLOCK)
+        × (length t.callers.items ≡ ACTIVATIONS) × (t.depth < ACTIVATIONS) × (t.base ≡ REGISTERS * t.depth)
         × IsShortRound t.granted × IsShortStage t.stage };
 }
 
 /// A thread that has ended, with these frames.
 fn thread_of(registers: Vec<Value>, callers: Vec<Activation>) -> CodeThread
-    requires registers { length registers.items ≡ 262144 }
-    requires callers { length callers.items ≡ 1024 }
+    requires registers { length registers.items ≡ BLOCK }
+    requires callers { length callers.items ≡ ACTIVATIONS }
     ensures { is_over result.stage ≡ true }
 {
     CodeThread {
@@ -118,12 +121,12 @@ impl CodeThread {
         ensures stopped { IfOk result (λ thread.
             (code : PlainCode) → want_of code thread ≡ want.Stopped) }
     {
-        let mut registers = Vec::with_capacity(alloc, 262_144)?;
-        for _register in 0..262_144_usize {
+        let mut registers = Vec::with_capacity(alloc, BLOCK)?;
+        for _register in 0..BLOCK {
             registers.push(ZERO)?;
         }
-        let mut callers = Vec::with_capacity(alloc, 1024)?;
-        for _caller in 0..1024_usize {
+        let mut callers = Vec::with_capacity(alloc, ACTIVATIONS)?;
+        for _caller in 0..ACTIVATIONS {
             callers.push(NONE)?;
         }
         Ok(thread_of(registers, callers))
@@ -162,14 +165,31 @@ impl CodeThread {
         self.registers[self.base + d as usize] = value;
     }
 
+    /// Whether the thread stands before its instruction, and in no further round of it.
+    fn is_before(&self) -> bool
+        ensures { result ≡ is_before (stage_of self.now) }
+    {
+        matches!((self.granted, self.stage), (None, Stage::Before))
+    }
+
+    /// Leaves the instruction, whatever was answered of it. Most instructions have no answers, and then
+    /// nothing is written.
+    fn clear(&mut self)
+        ensures { self.new ≡ before self.old (record self.old.at { granted = None }) }
+    {
+        if !self.is_before() {
+            self.granted = None;
+            self.stage = Stage::Before;
+        }
+    }
+
     /// Goes on at the next instruction.
     fn next(&mut self)
         requires { self.old.at.frame.index + 1 < 2 ^ 64 }
         ensures { self.new ≡ goes_on self.old }
     {
+        self.clear();
         self.index += 1;
-        self.granted = None;
-        self.stage = Stage::Before;
     }
 
     /// Writes a register, and goes on at the next instruction.
@@ -178,21 +198,21 @@ impl CodeThread {
         requires index { self.old.at.frame.index + 1 < 2 ^ 64 }
         ensures { self.new ≡ gets self.old d value }
     {
+        self.clear();
         self.put(d, value);
-        self.next();
+        self.index += 1;
     }
 
     /// Goes on at another instruction of the function.
     fn jump(&mut self, target: u32)
         ensures { self.new ≡ before self.old (at_index self.old.at target) }
     {
+        self.clear();
         self.index = target as usize;
-        self.granted = None;
-        self.stage = Stage::Before;
     }
 
     /// Goes to another stage of its instruction.
-    fn stand(&mut self, stage: Stage)
+    fn set_stage(&mut self, stage: Stage)
         requires { IsShortStage stage }
         ensures { self.new ≡ at_stage self.old stage }
     {

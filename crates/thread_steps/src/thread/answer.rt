@@ -1,21 +1,25 @@
 //! What a thread makes of an answer, by the stage of its instruction.
 
 ghost use Rattle.std.specs.Prelude.{◌≡◌, ◌+◌, ◌<◌, ◌^◌, length};
-ghost use Rattle.filc_num.specs.declared.integer.IntType.TheVariants.{U64};
 ghost use Rattle.ideal_machine.specs.Addresses.{elements_between};
-ghost use Rattle.ideal_machine.specs.Play.{by_reply};
-ghost use Rattle.ideal_machine.specs.Queries.{found_reply};
 ghost use Rattle.ideal_machine.specs.Words.{same_half, same_found};
 ghost use Rattle.whole_thread.specs.Answers.{gets_pointer, reads, gets_both, compares, replaces, looks};
-ghost use Rattle.whole_thread.specs.Answers.{when_done, answer_before, answer_granted, answer_at};
+ghost use Rattle.whole_thread.specs.Answers.{answer_before, answer_granted, answer_at};
 ghost use Rattle.whole_thread.specs.Answers.{thread_after_answer};
-ghost use Rattle.whole_thread.specs.Standing.{trap_line};
-ghost use Rattle.whole_thread.specs.Thread.{want_of, want_before, want_at};
-ghost use Rattle.thread_steps.specs.Short.{IsShort, IsShortStage, IsNear};
+ghost use Rattle.whole_thread.specs.Standing.{register, trap_line};
+ghost use Rattle.whole_thread.specs.Thread.{want_of, want_before, want_at, at_stage, gets};
+ghost use Rattle.whole_thread.specs.Answers.{checked, leaves_stage, when_done};
+ghost use Rattle.filc_num.specs.Integers.{convert_of};
+ghost use Rattle.ideal_machine.specs.Play.{by_reply};
+ghost use Rattle.ideal_machine.specs.Queries.{check_reply, plain_check_reply};
+ghost use Rattle.ideal_machine.specs.Values.{integer};
+ghost use Rattle.whole_code.specs.Numbers.{type_at, IsTypeNumber};
+ghost use Rattle.thread_steps.specs.Short.{IsShort, IsShortStage, IsNear, IsNearReply};
 ghost use Rattle.thread_steps.specs.Stands.{IsThreadOf};
 ghost use Rattle.thread_steps.specs.Turns.{room_of};
 ghost use Rattle.thread_steps.specs.Usable.{IsUsable};
 
+use crate::constants::NO_THREAD;
 use crate::thread::CodeThread;
 use crate::thread::reply::{
     byte_reply, check_reply, found_reply, id_reply, number_reply, plain_check_reply, room_reply,
@@ -92,42 +96,8 @@ impl CodeThread {
     {
         match op {
             Op::LoadPointer { d, .. } | Op::BoxSwap { d, .. } => self.set(d, pointer),
-            Op::BoxCas { .. } => self.stand(Stage::Read(access, found, pointer)),
-            Op::Const { .. }
-            | Op::Move { .. }
-            | Op::StaticAt { .. }
-            | Op::FunctionAt { .. }
-            | Op::Convert { .. }
-            | Op::Binary { .. }
-            | Op::PointerAdd { .. }
-            | Op::PointerSub { .. }
-            | Op::PointerCompare { .. }
-            | Op::ToInteger { .. }
-            | Op::ToPointer { .. }
-            | Op::Jump { .. }
-            | Op::JumpZero { .. }
-            | Op::Poll
-            | Op::Home { .. }
-            | Op::LoadInt { .. }
-            | Op::StoreInt { .. }
-            | Op::RmwInt { .. }
-            | Op::CasInt { .. }
-            | Op::StorePointer { .. }
-            | Op::BoxStore { .. }
-            | Op::Call { .. }
-            | Op::CallPointer { .. }
-            | Op::Return { .. }
-            | Op::New { .. }
-            | Op::Free { .. }
-            | Op::Size { .. }
-            | Op::Lock { .. }
-            | Op::Out { .. }
-            | Op::Input { .. }
-            | Op::Spawn { .. }
-            | Op::Join { .. }
-            | Op::SelfId { .. }
-            | Op::Exit { .. }
-            | Op::Abort => {}
+            Op::BoxCas { .. } => self.set_stage(Stage::Read(access, found, pointer)),
+            _ => {}
         }
     }
 
@@ -182,48 +152,12 @@ impl CodeThread {
         match op {
             Op::BoxCas { d, w, e, .. } => {
                 if pointer.number == self.value_of(e).number {
-                    self.stand(Stage::Matches(access, found, pointer));
+                    self.set_stage(Stage::Matches(access, found, pointer));
                 } else {
                     self.set_both(d, w, pointer, false);
                 }
             }
-            Op::Const { .. }
-            | Op::Move { .. }
-            | Op::StaticAt { .. }
-            | Op::FunctionAt { .. }
-            | Op::Convert { .. }
-            | Op::Binary { .. }
-            | Op::PointerAdd { .. }
-            | Op::PointerSub { .. }
-            | Op::PointerCompare { .. }
-            | Op::ToInteger { .. }
-            | Op::ToPointer { .. }
-            | Op::Jump { .. }
-            | Op::JumpZero { .. }
-            | Op::Poll
-            | Op::Home { .. }
-            | Op::LoadInt { .. }
-            | Op::StoreInt { .. }
-            | Op::RmwInt { .. }
-            | Op::CasInt { .. }
-            | Op::LoadPointer { .. }
-            | Op::StorePointer { .. }
-            | Op::BoxStore { .. }
-            | Op::BoxSwap { .. }
-            | Op::Call { .. }
-            | Op::CallPointer { .. }
-            | Op::Return { .. }
-            | Op::New { .. }
-            | Op::Free { .. }
-            | Op::Size { .. }
-            | Op::Lock { .. }
-            | Op::Out { .. }
-            | Op::Input { .. }
-            | Op::Spawn { .. }
-            | Op::Join { .. }
-            | Op::SelfId { .. }
-            | Op::Exit { .. }
-            | Op::Abort => {}
+            _ => {}
         }
     }
 
@@ -239,46 +173,10 @@ impl CodeThread {
                 if same_found(there, seen.0) {
                     self.set_both(d, w, seen.1, true);
                 } else {
-                    self.repeat(access);
+                    self.next_round(access);
                 }
             }
-            Op::Const { .. }
-            | Op::Move { .. }
-            | Op::StaticAt { .. }
-            | Op::FunctionAt { .. }
-            | Op::Convert { .. }
-            | Op::Binary { .. }
-            | Op::PointerAdd { .. }
-            | Op::PointerSub { .. }
-            | Op::PointerCompare { .. }
-            | Op::ToInteger { .. }
-            | Op::ToPointer { .. }
-            | Op::Jump { .. }
-            | Op::JumpZero { .. }
-            | Op::Poll
-            | Op::Home { .. }
-            | Op::LoadInt { .. }
-            | Op::StoreInt { .. }
-            | Op::RmwInt { .. }
-            | Op::CasInt { .. }
-            | Op::LoadPointer { .. }
-            | Op::StorePointer { .. }
-            | Op::BoxStore { .. }
-            | Op::BoxSwap { .. }
-            | Op::Call { .. }
-            | Op::CallPointer { .. }
-            | Op::Return { .. }
-            | Op::New { .. }
-            | Op::Free { .. }
-            | Op::Size { .. }
-            | Op::Lock { .. }
-            | Op::Out { .. }
-            | Op::Input { .. }
-            | Op::Spawn { .. }
-            | Op::Join { .. }
-            | Op::SelfId { .. }
-            | Op::Exit { .. }
-            | Op::Abort => {}
+            _ => {}
         }
     }
 
@@ -299,43 +197,55 @@ impl CodeThread {
                 let q = self.value_of(b).number;
                 self.compute(i, d, (op, U64_NUMBER), p, q);
             }
-            Op::Const { .. }
-            | Op::Move { .. }
-            | Op::StaticAt { .. }
-            | Op::FunctionAt { .. }
-            | Op::Convert { .. }
-            | Op::Binary { .. }
-            | Op::PointerAdd { .. }
-            | Op::ToInteger { .. }
-            | Op::ToPointer { .. }
-            | Op::Jump { .. }
-            | Op::JumpZero { .. }
-            | Op::Poll
-            | Op::Home { .. }
-            | Op::LoadInt { .. }
-            | Op::StoreInt { .. }
-            | Op::RmwInt { .. }
-            | Op::CasInt { .. }
-            | Op::LoadPointer { .. }
-            | Op::StorePointer { .. }
-            | Op::BoxStore { .. }
-            | Op::BoxSwap { .. }
-            | Op::BoxCas { .. }
-            | Op::Call { .. }
-            | Op::CallPointer { .. }
-            | Op::Return { .. }
-            | Op::New { .. }
-            | Op::Free { .. }
-            | Op::Size { .. }
-            | Op::Lock { .. }
-            | Op::Out { .. }
-            | Op::Input { .. }
-            | Op::Spawn { .. }
-            | Op::Join { .. }
-            | Op::SelfId { .. }
-            | Op::Exit { .. }
-            | Op::Abort => {}
+            _ => {}
         }
+    }
+
+    /// Writes the address of a pointer that was named, as a value of a type.
+    fn take_address(&mut self, d: u32, a: u32, t: u32, answer: Answer)
+        requires d { d < length self.old.at.frame.registers }
+        requires a { a < length self.old.at.frame.registers }
+        requires t { IsTypeNumber t }
+        requires index { self.old.at.frame.index + 1 < 2 ^ 64 }
+        ensures { self.new ≡ when_done self.old (gets self.old d
+            (integer (convert_of (register self.old.at a).number (type_at t)))) answer }
+    {
+        let number = convert(self.value_of(a).number, type_at(t));
+        self.set_when_done(d, integer(number), answer);
+    }
+
+    /// Goes on after a check of so many bytes at the pointer in a register, or traps.
+    fn grant_at(&mut self, i: &Instruction, p: u32, width: u32, answer: Answer)
+        requires register { p < length self.old.at.frame.registers }
+        requires near { IsNearReply (check_reply answer) (register self.old.at p).half
+            (register self.old.at p).number }
+        ensures { self.new ≡ by_reply (plain_check_reply answer) self.old (checked self.old
+            (trap_line self.old.at.frame i.now) (register self.old.at p) width) }
+    {
+        let pointer = self.value_of(p);
+        self.grant_plain(i, pointer, width, answer);
+    }
+
+    /// The same of a pointer's bytes that are to be written.
+    fn grant_store(&mut self, i: &Instruction, p: u32, answer: Answer)
+        requires register { p < length self.old.at.frame.registers }
+        requires near { IsNearReply (check_reply answer) (register self.old.at p).half
+            (register self.old.at p).number }
+        ensures { self.new ≡ by_reply (check_reply answer) self.old (checked self.old
+            (trap_line self.old.at.frame i.now) (register self.old.at p) 8) }
+    {
+        let pointer = self.value_of(p);
+        self.grant(i, pointer, 8, check_reply(answer));
+    }
+
+    /// The end of a thread's first function with the value of a register, when it is done.
+    fn leave_with(&mut self, main: bool, a: u32, answer: Answer)
+        requires { a < length self.old.at.frame.registers }
+        ensures { self.new ≡ when_done self.old
+            (at_stage self.old (leaves_stage main (register self.old.at a))) answer }
+    {
+        let value = self.value_of(a);
+        self.leave(main, value, answer);
     }
 
     /// The answer before an instruction.
@@ -350,48 +260,29 @@ impl CodeThread {
             Op::PointerSub { .. } | Op::PointerCompare { .. } => {
                 self.stand_when_done(Stage::NamedFirst, answer);
             }
-            Op::ToInteger { d, a, t } => {
-                let number = convert(self.value_of(a).number, type_at(t));
-                self.set_when_done(d, integer(number), answer);
-            }
+            Op::ToInteger { d, a, t } => self.take_address(d, a, t, answer),
             Op::Home { d, .. } => self.take_home(i, d, answer),
             Op::New { d, .. } => self.take_object(d, answer),
-            Op::Free { .. } => self.pass(i, plain_check_reply(answer)),
+            Op::Free { .. } => self.next_unless_refused(i, plain_check_reply(answer)),
             Op::Size { d, .. } => self.take_size(i, d, answer),
             Op::LoadInt { p, t, .. }
             | Op::StoreInt { p, t, .. }
             | Op::RmwInt { p, t, .. }
             | Op::CasInt { p, t, .. } => {
-                let pointer = self.value_of(p);
-                self.grant_plain(i, pointer, type_at(t).bytes(), answer);
+                self.grant_at(i, p, type_at(t).bytes(), answer);
             }
-            Op::Lock { p } => {
-                let pointer = self.value_of(p);
-                self.grant_plain(i, pointer, 4, answer);
-            }
-            Op::LoadPointer { p, .. } => {
-                let pointer = self.value_of(p);
-                self.grant_plain(i, pointer, 8, answer);
-            }
+            Op::Lock { p } => self.grant_at(i, p, 4, answer),
+            Op::LoadPointer { p, .. } => self.grant_at(i, p, 8, answer),
             Op::StorePointer { p, .. }
             | Op::BoxStore { p, .. }
             | Op::BoxSwap { p, .. }
-            | Op::BoxCas { p, .. } => {
-                let pointer = self.value_of(p);
-                self.grant(i, pointer, 8, check_reply(answer));
-            }
-            Op::Return { a } => {
-                let value = self.value_of(a);
-                self.leave(self.main, value, answer);
-            }
-            Op::Out { .. } => self.pass(i, room_reply(answer)),
+            | Op::BoxCas { p, .. } => self.grant_store(i, p, answer),
+            Op::Return { a } => self.leave_with(self.main, a, answer),
+            Op::Out { .. } => self.next_unless_refused(i, room_reply(answer)),
             Op::Input { d } => self.take_or(d, u64::MAX, byte_reply(answer)),
             Op::Spawn { d, .. } => self.take_or(d, u64::MAX, id_reply(answer)),
-            Op::Join { d, .. } => self.take_or(d, 4_294_967_296, id_reply(answer)),
-            Op::Exit { a } => {
-                let value = self.value_of(a);
-                self.leave(true, value, answer);
-            }
+            Op::Join { d, .. } => self.take_or(d, NO_THREAD, id_reply(answer)),
+            Op::Exit { a } => self.leave_with(true, a, answer),
             Op::Const { .. }
             | Op::Move { .. }
             | Op::StaticAt { .. }
@@ -434,34 +325,7 @@ impl CodeThread {
                 self.take_half(access, answer);
             }
             Op::StorePointer { .. } => self.stand_when_done(Stage::Stored(access), answer),
-            Op::Const { .. }
-            | Op::Move { .. }
-            | Op::StaticAt { .. }
-            | Op::FunctionAt { .. }
-            | Op::Convert { .. }
-            | Op::Binary { .. }
-            | Op::PointerAdd { .. }
-            | Op::PointerSub { .. }
-            | Op::PointerCompare { .. }
-            | Op::ToInteger { .. }
-            | Op::ToPointer { .. }
-            | Op::Jump { .. }
-            | Op::JumpZero { .. }
-            | Op::Poll
-            | Op::Home { .. }
-            | Op::Call { .. }
-            | Op::CallPointer { .. }
-            | Op::Return { .. }
-            | Op::New { .. }
-            | Op::Free { .. }
-            | Op::Size { .. }
-            | Op::Out { .. }
-            | Op::Input { .. }
-            | Op::Spawn { .. }
-            | Op::Join { .. }
-            | Op::SelfId { .. }
-            | Op::Exit { .. }
-            | Op::Abort => {}
+            _ => {}
         }
     }
 
@@ -481,14 +345,7 @@ impl CodeThread {
             Stage::Found(access, found) => self.read(code, i.op, access, found, answer),
             Stage::Read(access, found, pointer) => match answer {
                 Answer::Done => self.compare(code, i.op, access, found, pointer),
-                Answer::Granted
-                | Answer::Refused(_)
-                | Answer::Number(_)
-                | Answer::Found(_)
-                | Answer::Opened(..)
-                | Answer::Made(..)
-                | Answer::Absent
-                | Answer::End => {}
+                _ => {}
             },
             Stage::Matches(access, found, pointer) => {
                 if let Some(there) = found_reply(answer) {
@@ -497,14 +354,7 @@ impl CodeThread {
             }
             Stage::NamedFirst => match answer {
                 Answer::Done => self.look(code, i, i.op),
-                Answer::Granted
-                | Answer::Refused(_)
-                | Answer::Number(_)
-                | Answer::Found(_)
-                | Answer::Opened(..)
-                | Answer::Made(..)
-                | Answer::Absent
-                | Answer::End => {}
+                _ => {}
             },
             Stage::Traps(reason, line) => {
                 let halt = Halt::Finished(Finish::Trapped(reason, line));

@@ -3,7 +3,8 @@
 ghost use Rattle.std.specs.Prelude.{◌≡◌, ◌+◌, ◌<◌, ◌≤◌, ℕ, length};
 ghost use Rattle.ideal_machine.specs.Values.{value_at};
 ghost use Rattle.whole_thread.specs.Thread.{thread_after_begin};
-ghost use Rattle.thread_steps.specs.Passing.{begun_at};
+ghost use Rattle.thread_steps.specs.declared.constants.TheConstants.{BLOCK, FRAME};
+ghost use Rattle.thread_steps.specs.Passing.{first_register};
 ghost use Rattle.thread_steps.specs.Stands.{IsThreadOf};
 
 use crate::thread::calls::fewer;
@@ -14,18 +15,18 @@ use whole_thread::Stage;
 
 /// What the register k of a thread's first function begins with: the argument, or zero.
 fn first_value(argument: Value, given: u32, k: u32) -> Value
-    ensures { result ≡ begun_at argument given k }
+    ensures { result ≡ first_register argument given k }
 {
     if k < given { argument } else { ZERO }
 }
 
 /// Fills the first frame: its first `given` registers with the argument, the others with zero.
 fn start(registers: &mut Vec<Value>, argument: Value, given: u32, values: u32)
-    requires long { length registers.old.items ≡ 262144 }
-    requires values { values ≤ 256 }
-    ensures long { length registers.new.items ≡ 262144 }
+    requires long { length registers.old.items ≡ BLOCK }
+    requires values { values ≤ FRAME }
+    ensures long { length registers.new.items ≡ BLOCK }
     ensures filled { (k : ℕ) → k < values →
-        value_at registers.new.items k ≡ begun_at argument given k }
+        value_at registers.new.items k ≡ first_register argument given k }
 {
     for k in 0..values {
         registers[k as usize] = first_value(argument, given, k);

@@ -4,37 +4,40 @@ ghost use Rattle.std.specs.Prelude.{◌≡◌, ◌<◌, length};
 ghost use Rattle.whole_code.specs.Plain.{PlainCode};
 ghost use Rattle.thread_steps.specs.Registers.{block_count, block_index};
 ghost use Rattle.thread_steps.specs.Registers.{register_count, register_of, thread_with_freed};
+ghost use Rattle.thread_steps.specs.declared.constants.TheConstants.{ACTIVATIONS, BLOCK};
 ghost use Rattle.thread_steps.specs.Stands.{IsThreadOf};
 
 use crate::activation::Activation;
+use crate::constants::FRAME;
 use crate::thread::CodeThread;
 use crate::thread::calls::fewer;
+use filc_num::REGISTERS;
 use ideal_machine::{Half, Value};
 
 /// How many registers there are from a depth on outwards.
 fn count(callers: &Vec<Activation>, depth: usize, values: u32) -> u32
-    requires callers { length callers.now.items ≡ 1024 }
-    requires depth { depth < 1024 }
+    requires callers { length callers.now.items ≡ ACTIVATIONS }
+    requires depth { depth < ACTIVATIONS }
     ensures { result ≡ block_count callers.now.items depth values }
 {
-    let mut total = fewer(values, 256);
+    let mut total = fewer(values, REGISTERS);
     for k in 0..depth {
-        total += fewer(callers[k].values, 256);
+        total += fewer(callers[k].values, REGISTERS);
     }
     total
 }
 
 /// Where a register stands in the block, counted from a depth on outwards.
 fn index_of(callers: &Vec<Activation>, depth: usize, values: u32, register: u32) -> usize
-    requires callers { length callers.now.items ≡ 1024 }
-    requires depth { depth < 1024 }
+    requires callers { length callers.now.items ≡ ACTIVATIONS }
+    requires depth { depth < ACTIVATIONS }
     requires there { register < block_count callers.now.items depth values }
     ensures value { result ≡ block_index callers.now.items depth values register }
-    ensures within { result < 262144 }
+    ensures within { result < BLOCK }
 {
-    let have = fewer(values, 256);
+    let have = fewer(values, REGISTERS);
     if register < have {
-        return 256 * depth + register as usize;
+        return FRAME * depth + register as usize;
     }
     let outside = depth - 1;
     index_of(callers, outside, callers[outside].values, register - have)

@@ -1,10 +1,6 @@
 //! Which reply an answer is, and what a thread makes of one.
 
-ghost use Rattle.std.specs.Prelude.{◌≡◌, ◌+◌, ◌*◌, ◌-◌, ◌<◌, ◌≤◌, ◌^◌, length};
-ghost use Rattle.filc_num.specs.Integers.{bytes_of, convert_of};
-ghost use Rattle.filc_num.specs.declared.integer.IntType.TheVariants.{U64};
-ghost use Rattle.ideal_machine.specs.Addresses.{elements_between};
-ghost use Rattle.ideal_machine.specs.Phrases.{operator_result};
+ghost use Rattle.std.specs.Prelude.{◌≡◌, ◌+◌, ◌-◌, ◌<◌, ◌^◌, length};
 ghost use Rattle.ideal_machine.specs.Play.{by_reply};
 ghost use Rattle.ideal_machine.specs.Queries.{check_reply, plain_check_reply, room_reply};
 ghost use Rattle.ideal_machine.specs.Queries.{number_reply, found_reply, byte_reply, id_reply};
@@ -12,24 +8,19 @@ ghost use Rattle.ideal_machine.specs.Queries.{size_reply, object_reply, lock_rep
 ghost use Rattle.ideal_machine.specs.Threads.{number_or};
 ghost use Rattle.ideal_machine.specs.Lifetimes.{object_or_null};
 ghost use Rattle.ideal_machine.specs.Values.{integer};
-ghost use Rattle.ideal_machine.specs.Words.{same_half, same_found};
-ghost use Rattle.whole_code.specs.Numbers.{operator_at, type_at};
 ghost use Rattle.whole_thread.specs.Answers.{unless_refused, granted_stage, checked, gets_size};
-ghost use Rattle.whole_thread.specs.Answers.{gets_home, locks, again, gets_pointer, reads, gets_both};
-ghost use Rattle.whole_thread.specs.Answers.{compares, replaces, looks, leaves_stage, when_done};
-ghost use Rattle.whole_thread.specs.Answers.{answer_before, answer_granted, answer_at};
-ghost use Rattle.whole_thread.specs.Answers.{thread_after_answer, gets_int};
-ghost use Rattle.whole_thread.specs.Standing.{register, trap_line};
-ghost use Rattle.whole_thread.specs.Thread.{at_stage, gets, gets_result, goes_on, want_of};
-ghost use Rattle.whole_thread.specs.Thread.{want_before, place_address};
+ghost use Rattle.whole_thread.specs.Answers.{gets_home, locks, again};
+ghost use Rattle.whole_thread.specs.Answers.{leaves_stage, when_done};
+ghost use Rattle.whole_thread.specs.Answers.{gets_int};
+ghost use Rattle.whole_thread.specs.Standing.{trap_line};
+ghost use Rattle.whole_thread.specs.Thread.{at_stage, gets, goes_on};
+ghost use Rattle.whole_thread.specs.Thread.{place_address};
 ghost use Rattle.whole_thread.specs.declared.stage.Stage.TheVariants as stage;
 ghost use Rattle.whole_code.specs.Numbers.{IsTypeNumber};
-ghost use Rattle.thread_steps.specs.Short.{IsShort, IsShortStage, IsNear, IsNearHalf};
+ghost use Rattle.thread_steps.specs.Short.{IsShort, IsShortStage, IsNearHalf};
 ghost use Rattle.thread_steps.specs.Short.{IsNearReply};
-ghost use Rattle.thread_steps.specs.Stands.{StandsIn};
-ghost use Rattle.thread_steps.specs.Turns.{room_of};
-ghost use Rattle.thread_steps.specs.Usable.{IsUsable};
 
+use crate::constants::{FIRST_ADDRESS, WORD_BYTES};
 use crate::thread::CodeThread;
 use crate::thread::step::integer;
 use filc_num::{Reason, convert};
@@ -225,8 +216,8 @@ pub(super) fn size_reply(answer: Answer) -> Option<Result<u64, Reason>>
 pub(super) fn offset_in(place: u64, address: u64) -> u64
     ensures { result ≡ address - place_address place }
 {
-    if place <= (u64::MAX - 65536) / 8 {
-        address.saturating_sub(65536 + 8 * place)
+    if place <= (u64::MAX - FIRST_ADDRESS) / WORD_BYTES {
+        address.saturating_sub(FIRST_ADDRESS + WORD_BYTES * place)
     } else {
         0
     }
@@ -255,7 +246,7 @@ impl CodeThread {
         ensures { self.new ≡ when_done self.old (at_stage self.old stage) answer }
     {
         match answer {
-            Answer::Done => self.stand(stage),
+            Answer::Done => self.set_stage(stage),
             Answer::Granted
             | Answer::Refused(_)
             | Answer::Number(_)
@@ -320,7 +311,7 @@ impl CodeThread {
             None => {}
             Some(None) => {
                 let stage = granted_stage(p, width);
-                self.stand(stage);
+                self.set_stage(stage);
             }
             Some(Some(reason)) => self.trap(i, reason),
         }
@@ -336,7 +327,7 @@ impl CodeThread {
     }
 
     /// Goes on at the next instruction, or traps.
-    pub(super) fn pass(&mut self, i: &Instruction, reply: Option<Option<Reason>>)
+    pub(super) fn next_unless_refused(&mut self, i: &Instruction, reply: Option<Option<Reason>>)
         requires index { self.old.at.frame.index + 1 < 2 ^ 64 }
         ensures { self.new ≡ by_reply reply self.old
             (unless_refused self.old (trap_line self.old.at.frame i.now) (goes_on self.old)) }
@@ -453,12 +444,12 @@ impl CodeThread {
             (λ found. at_stage self.old (stage.Found access found)) }
     {
         if let Some(found) = found_reply(answer) {
-            self.stand(Stage::Found(access, found));
+            self.set_stage(Stage::Found(access, found));
         }
     }
 
     /// Makes one more round of the instruction, after its check.
-    pub(super) fn repeat(&mut self, access: Access)
+    pub(super) fn next_round(&mut self, access: Access)
         requires { IsShort access }
         ensures { self.new ≡ again self.old access }
     {
@@ -484,7 +475,7 @@ impl CodeThread {
             | Answer::Absent
             | Answer::End => match plain_check_reply(answer) {
                 None => {}
-                Some(None) => self.repeat(access),
+                Some(None) => self.next_round(access),
                 Some(Some(reason)) => self.trap(i, reason),
             },
         }

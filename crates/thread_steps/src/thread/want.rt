@@ -1,10 +1,12 @@
 //! What a thread wants next.
 
-ghost use Rattle.std.specs.Prelude.{◌≡◌, ◌<◌, ◌^◌, length};
-ghost use Rattle.std.specs.Prelude.{slice_get, true};
+ghost use Rattle.std.specs.Prelude.{◌≡◌, ◌<◌, ◌%◌, ◌^◌, length};
+ghost use Rattle.std.specs.Prelude.{true};
 ghost use Rattle.whole_thread.specs.Standing.{register};
-ghost use Rattle.filc_num.specs.Integers.{bytes_of};
 ghost use Rattle.whole_code.specs.Numbers.{type_at, IsTypeNumber, IsOperation};
+ghost use Rattle.ideal_machine.specs.declared.event.Event.TheVariants as event;
+ghost use Rattle.ideal_machine.specs.declared.event.Seen.TheVariants.{Any};
+ghost use Rattle.whole_thread.specs.declared.stage.Want.TheVariants as want;
 ghost use Rattle.ideal_machine.specs.PointerAccess.{word_of, pair_of};
 ghost use Rattle.whole_thread.specs.Act.{kinds_of, operation_at};
 ghost use Rattle.whole_thread.specs.Thread.{want_of, want_before, want_granted, want_pointer};
@@ -16,15 +18,17 @@ ghost use Rattle.thread_steps.specs.Stands.{IsThreadOf};
 ghost use Rattle.thread_steps.specs.Turns.{room_of};
 ghost use Rattle.thread_steps.specs.Usable.{IsUsable};
 
+use crate::constants::THREAD_KIND;
 use crate::thread::CodeThread;
 use crate::thread::step::has_kind;
 use ideal_machine::{Access, Event, Found, Half, Kept, Operation, Seen, Value};
 use whole_code::{Code, Op, SET, operator_at, type_at};
 use whole_thread::{Stage, Want};
 
-/// The kinds of objects that code makes: of `malloc`, and a local's home.
+/// The kind of an object of `malloc`.
 const MALLOC: u32 = 0;
 
+/// The kind of an object that is the home of a local.
 const HOME: u32 = 1;
 
 /// May so many bytes at a pointer be accessed?
@@ -63,6 +67,38 @@ fn free_of(p: Value) -> Want
     }
 }
 
+/// An object of so many bytes.
+fn new_of(bytes: u64, kind: u32) -> Want
+    ensures { result ≡ want.Event (event.New bytes kind) }
+{
+    Want::Event(Event::New { bytes, kind })
+}
+
+/// The size of the object of a pointer.
+fn size_of(p: Value) -> Want
+    ensures { result ≡ want.Event (event.Size p.half p.number) }
+{
+    Want::Event(Event::Size {
+        half: p.half,
+        address: p.number,
+    })
+}
+
+/// A byte that is put out: the low one of a value.
+fn out_of(v: Value) -> Want
+    ensures { result ≡ want.Event (event.Out (v.number % 256)) }
+{
+    let byte = (v.number % 256) as u8;
+    Want::Event(Event::Out { byte })
+}
+
+/// The result of the thread of an id.
+fn join_of(v: Value) -> Want
+    ensures { result ≡ want.Event (event.Join v.number) }
+{
+    Want::Event(Event::Join { id: v.number })
+}
+
 /// A thread more, where the half names a function that one may begin with.
 fn spawn_of(code: &Code, half: Half, argument: Value) -> Want
     ensures { result ≡ spawn_of (kinds_of code.now) half argument }
@@ -70,7 +106,7 @@ fn spawn_of(code: &Code, half: Half, argument: Value) -> Want
     let Half::Function(function) = half else {
         return Want::Instruction;
     };
-    if has_kind(code, function, 0) {
+    if has_kind(code, function, THREAD_KIND) {
         Want::Event(Event::Spawn {
             function,
             address: argument.number,
@@ -128,6 +164,29 @@ fn pair_of(v: Value) -> Kept
     Kept::Pair(v.number, v.half)
 }
 
+/// A pointer comes into a word, in one step.
+fn store_of(object: u64, word: u32, v: Value) -> Event
+    ensures { result ≡ event.SetHalf object word (pair_of v) }
+{
+    Event::SetHalf {
+        object,
+        word,
+        half: pair_of(v),
+    }
+}
+
+/// A pointer comes in place of any that is in a word, in one step.
+fn swap_of(object: u64, word: u32, v: Value) -> Event
+    ensures { result ≡ event.CasHalf object word Any (pair_of v) }
+{
+    Event::CasHalf {
+        object,
+        word,
+        seen: Seen::Any,
+        new: pair_of(v),
+    }
+}
+
 /// The pointer of a half that was found.
 fn want_pointer(access: Access, found: Found) -> Want
     ensures { result ≡ want_pointer access found }
@@ -179,22 +238,10 @@ impl CodeThread {
             Op::PointerSub { a, .. } | Op::PointerCompare { a, .. } | Op::ToInteger { a, .. } => {
                 name_of(self.value_of(a))
             }
-            Op::Home { bytes, .. } => Want::Event(Event::New {
-                bytes: u64::from(bytes),
-                kind: HOME,
-            }),
-            Op::New { a, .. } => Want::Event(Event::New {
-                bytes: self.value_of(a).number,
-                kind: MALLOC,
-            }),
+            Op::Home { bytes, .. } => new_of(u64::from(bytes), HOME),
+            Op::New { a, .. } => new_of(self.value_of(a).number, MALLOC),
             Op::Free { a } => free_of(self.value_of(a)),
-            Op::Size { a, .. } => {
-                let p = self.value_of(a);
-                Want::Event(Event::Size {
-                    half: p.half,
-                    address: p.number,
-                })
-            }
+            Op::Size { a, .. } => size_of(self.value_of(a)),
             Op::LoadInt { p, t, .. } => self.check(p, type_at(t).bytes(), false),
             Op::StoreInt { p, t, .. } | Op::RmwInt { p, t, .. } | Op::CasInt { p, t, .. } => {
                 self.check(p, type_at(t).bytes(), true)
@@ -206,30 +253,12 @@ impl CodeThread {
             | Op::BoxSwap { p, .. }
             | Op::BoxCas { p, .. } => self.check(p, 8, true),
             Op::Return { a } => self.return_of(self.value_of(a)),
-            Op::Out { a } => {
-                let byte = (self.value_of(a).number % 256) as u8;
-                Want::Event(Event::Out { byte })
-            }
+            Op::Out { a } => out_of(self.value_of(a)),
             Op::Input { .. } => Want::Event(Event::Input),
             Op::Spawn { a, b, .. } => spawn_of(code, self.value_of(a).half, self.value_of(b)),
-            Op::Join { a, .. } => Want::Event(Event::Join {
-                id: self.value_of(a).number,
-            }),
+            Op::Join { a, .. } => join_of(self.value_of(a)),
             Op::Exit { a } => exit_of(self.value_of(a)),
-            Op::Const { .. }
-            | Op::Move { .. }
-            | Op::StaticAt { .. }
-            | Op::FunctionAt { .. }
-            | Op::Convert { .. }
-            | Op::Binary { .. }
-            | Op::PointerAdd { .. }
-            | Op::ToPointer { .. }
-            | Op::Jump { .. }
-            | Op::JumpZero { .. }
-            | Op::Call { .. }
-            | Op::CallPointer { .. }
-            | Op::SelfId { .. }
-            | Op::Abort => Want::Instruction,
+            _ => Want::Instruction,
         }
     }
 
@@ -262,45 +291,9 @@ impl CodeThread {
                 offset: access.offset,
             },
             Op::LoadPointer { .. } | Op::BoxCas { .. } => Event::GetHalf { object, word },
-            Op::BoxStore { a, .. } => Event::SetHalf {
-                object,
-                word,
-                half: pair_of(self.value_of(a)),
-            },
-            Op::BoxSwap { a, .. } => Event::CasHalf {
-                object,
-                word,
-                seen: Seen::Any,
-                new: pair_of(self.value_of(a)),
-            },
-            Op::Const { .. }
-            | Op::Move { .. }
-            | Op::StaticAt { .. }
-            | Op::FunctionAt { .. }
-            | Op::Convert { .. }
-            | Op::Binary { .. }
-            | Op::PointerAdd { .. }
-            | Op::PointerSub { .. }
-            | Op::PointerCompare { .. }
-            | Op::ToInteger { .. }
-            | Op::ToPointer { .. }
-            | Op::Jump { .. }
-            | Op::JumpZero { .. }
-            | Op::Poll
-            | Op::Home { .. }
-            | Op::Call { .. }
-            | Op::CallPointer { .. }
-            | Op::Return { .. }
-            | Op::New { .. }
-            | Op::Free { .. }
-            | Op::Size { .. }
-            | Op::Out { .. }
-            | Op::Input { .. }
-            | Op::Spawn { .. }
-            | Op::Join { .. }
-            | Op::SelfId { .. }
-            | Op::Exit { .. }
-            | Op::Abort => return Want::Stopped,
+            Op::BoxStore { a, .. } => store_of(object, word, self.value_of(a)),
+            Op::BoxSwap { a, .. } => swap_of(object, word, self.value_of(a)),
+            _ => return Want::Stopped,
         };
         Want::Event(event)
     }
@@ -313,41 +306,7 @@ impl CodeThread {
             Op::LoadPointer { .. } | Op::BoxSwap { .. } | Op::BoxCas { .. } => {
                 want_pointer(access, found)
             }
-            Op::Const { .. }
-            | Op::Move { .. }
-            | Op::StaticAt { .. }
-            | Op::FunctionAt { .. }
-            | Op::Convert { .. }
-            | Op::Binary { .. }
-            | Op::PointerAdd { .. }
-            | Op::PointerSub { .. }
-            | Op::PointerCompare { .. }
-            | Op::ToInteger { .. }
-            | Op::ToPointer { .. }
-            | Op::Jump { .. }
-            | Op::JumpZero { .. }
-            | Op::Poll
-            | Op::Home { .. }
-            | Op::LoadInt { .. }
-            | Op::StoreInt { .. }
-            | Op::RmwInt { .. }
-            | Op::CasInt { .. }
-            | Op::StorePointer { .. }
-            | Op::BoxStore { .. }
-            | Op::Call { .. }
-            | Op::CallPointer { .. }
-            | Op::Return { .. }
-            | Op::New { .. }
-            | Op::Free { .. }
-            | Op::Size { .. }
-            | Op::Lock { .. }
-            | Op::Out { .. }
-            | Op::Input { .. }
-            | Op::Spawn { .. }
-            | Op::Join { .. }
-            | Op::SelfId { .. }
-            | Op::Exit { .. }
-            | Op::Abort => Want::Stopped,
+            _ => Want::Stopped,
         }
     }
 
@@ -363,43 +322,7 @@ impl CodeThread {
                 word: word_of(access),
                 half: Kept::Plain(self.value_of(a).half),
             }),
-            Op::Const { .. }
-            | Op::Move { .. }
-            | Op::StaticAt { .. }
-            | Op::FunctionAt { .. }
-            | Op::Convert { .. }
-            | Op::Binary { .. }
-            | Op::PointerAdd { .. }
-            | Op::PointerSub { .. }
-            | Op::PointerCompare { .. }
-            | Op::ToInteger { .. }
-            | Op::ToPointer { .. }
-            | Op::Jump { .. }
-            | Op::JumpZero { .. }
-            | Op::Poll
-            | Op::Home { .. }
-            | Op::LoadInt { .. }
-            | Op::StoreInt { .. }
-            | Op::RmwInt { .. }
-            | Op::CasInt { .. }
-            | Op::LoadPointer { .. }
-            | Op::BoxStore { .. }
-            | Op::BoxSwap { .. }
-            | Op::BoxCas { .. }
-            | Op::Call { .. }
-            | Op::CallPointer { .. }
-            | Op::Return { .. }
-            | Op::New { .. }
-            | Op::Free { .. }
-            | Op::Size { .. }
-            | Op::Lock { .. }
-            | Op::Out { .. }
-            | Op::Input { .. }
-            | Op::Spawn { .. }
-            | Op::Join { .. }
-            | Op::SelfId { .. }
-            | Op::Exit { .. }
-            | Op::Abort => Want::Stopped,
+            _ => Want::Stopped,
         }
     }
 
@@ -410,43 +333,7 @@ impl CodeThread {
     {
         match op {
             Op::BoxCas { e, .. } => name_of(self.value_of(e)),
-            Op::Const { .. }
-            | Op::Move { .. }
-            | Op::StaticAt { .. }
-            | Op::FunctionAt { .. }
-            | Op::Convert { .. }
-            | Op::Binary { .. }
-            | Op::PointerAdd { .. }
-            | Op::PointerSub { .. }
-            | Op::PointerCompare { .. }
-            | Op::ToInteger { .. }
-            | Op::ToPointer { .. }
-            | Op::Jump { .. }
-            | Op::JumpZero { .. }
-            | Op::Poll
-            | Op::Home { .. }
-            | Op::LoadInt { .. }
-            | Op::StoreInt { .. }
-            | Op::RmwInt { .. }
-            | Op::CasInt { .. }
-            | Op::LoadPointer { .. }
-            | Op::StorePointer { .. }
-            | Op::BoxStore { .. }
-            | Op::BoxSwap { .. }
-            | Op::Call { .. }
-            | Op::CallPointer { .. }
-            | Op::Return { .. }
-            | Op::New { .. }
-            | Op::Free { .. }
-            | Op::Size { .. }
-            | Op::Lock { .. }
-            | Op::Out { .. }
-            | Op::Input { .. }
-            | Op::Spawn { .. }
-            | Op::Join { .. }
-            | Op::SelfId { .. }
-            | Op::Exit { .. }
-            | Op::Abort => Want::Stopped,
+            _ => Want::Stopped,
         }
     }
 
@@ -463,43 +350,7 @@ impl CodeThread {
                 seen: Seen::Found(found),
                 new: pair_of(self.value_of(n)),
             }),
-            Op::Const { .. }
-            | Op::Move { .. }
-            | Op::StaticAt { .. }
-            | Op::FunctionAt { .. }
-            | Op::Convert { .. }
-            | Op::Binary { .. }
-            | Op::PointerAdd { .. }
-            | Op::PointerSub { .. }
-            | Op::PointerCompare { .. }
-            | Op::ToInteger { .. }
-            | Op::ToPointer { .. }
-            | Op::Jump { .. }
-            | Op::JumpZero { .. }
-            | Op::Poll
-            | Op::Home { .. }
-            | Op::LoadInt { .. }
-            | Op::StoreInt { .. }
-            | Op::RmwInt { .. }
-            | Op::CasInt { .. }
-            | Op::LoadPointer { .. }
-            | Op::StorePointer { .. }
-            | Op::BoxStore { .. }
-            | Op::BoxSwap { .. }
-            | Op::Call { .. }
-            | Op::CallPointer { .. }
-            | Op::Return { .. }
-            | Op::New { .. }
-            | Op::Free { .. }
-            | Op::Size { .. }
-            | Op::Lock { .. }
-            | Op::Out { .. }
-            | Op::Input { .. }
-            | Op::Spawn { .. }
-            | Op::Join { .. }
-            | Op::SelfId { .. }
-            | Op::Exit { .. }
-            | Op::Abort => Want::Stopped,
+            _ => Want::Stopped,
         }
     }
 
@@ -510,42 +361,7 @@ impl CodeThread {
     {
         match op {
             Op::PointerSub { b, .. } | Op::PointerCompare { b, .. } => name_of(self.value_of(b)),
-            Op::Const { .. }
-            | Op::Move { .. }
-            | Op::StaticAt { .. }
-            | Op::FunctionAt { .. }
-            | Op::Convert { .. }
-            | Op::Binary { .. }
-            | Op::PointerAdd { .. }
-            | Op::ToInteger { .. }
-            | Op::ToPointer { .. }
-            | Op::Jump { .. }
-            | Op::JumpZero { .. }
-            | Op::Poll
-            | Op::Home { .. }
-            | Op::LoadInt { .. }
-            | Op::StoreInt { .. }
-            | Op::RmwInt { .. }
-            | Op::CasInt { .. }
-            | Op::LoadPointer { .. }
-            | Op::StorePointer { .. }
-            | Op::BoxStore { .. }
-            | Op::BoxSwap { .. }
-            | Op::BoxCas { .. }
-            | Op::Call { .. }
-            | Op::CallPointer { .. }
-            | Op::Return { .. }
-            | Op::New { .. }
-            | Op::Free { .. }
-            | Op::Size { .. }
-            | Op::Lock { .. }
-            | Op::Out { .. }
-            | Op::Input { .. }
-            | Op::Spawn { .. }
-            | Op::Join { .. }
-            | Op::SelfId { .. }
-            | Op::Exit { .. }
-            | Op::Abort => Want::Stopped,
+            _ => Want::Stopped,
         }
     }
 

@@ -6,7 +6,7 @@ use Rattle.whole_code.specs.Plain.{plain_function}
 use Rattle.whole_thread.specs.declared.stage.Stage.TheVariants as stage
 use Rattle.whole_thread.specs.Standing.{first_registers}
 use Rattle.whole_thread.specs.Thread.{Thread, begins_at}
-use Rattle.thread_steps.specs.Passing.{begun_at}
+use Rattle.thread_steps.specs.Passing.{first_register}
 use Rattle.thread_steps.specs.Stands.{StandsIn}
 use Rattle.thread_steps.proofs.Passing.{first_filled}
 use Rattle.thread_steps.proofs.Standing.{begin_stands}
@@ -20,8 +20,8 @@ returns-clause-exact c =
     let argument : Value = record { number = c.args.address; half = c.args.half } in
     let rs = c.start.new.registers.items in
     let given : c.fewer-given.result ≡ min f.parameters 1 = c.fewer-given.ensures in
-    let filled : (k : ℕ) → k < f.values → value_at rs k ≡ begun_at argument (min f.parameters 1) k = λ k lt.
-    c.start.ensures.filled k lt ∙ ap (λ g. begun_at argument g k) given in
+    let filled : (k : ℕ) → k < f.values → value_at rs k ≡ first_register argument (min f.parameters 1) k = λ k lt.
+    c.start.ensures.filled k lt ∙ ap (λ g. first_register argument g k) given in
     let view : Bool → List Value → Thread = λ main l. record {
       id = c.args.id;
       main = main;

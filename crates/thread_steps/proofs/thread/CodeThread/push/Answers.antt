@@ -10,7 +10,7 @@ use Rattle.whole_thread.specs.Act.{caller_at, entering}
 use Rattle.whole_thread.specs.Thread.{Thread, before}
 use Rattle.thread_steps.specs.declared.activation.Activation.{Activation}
 use Rattle.thread_steps.specs.Blocks.{frame_registers, caller_of, callers_of}
-use Rattle.thread_steps.specs.Passing.{passed_at}
+use Rattle.thread_steps.specs.Passing.{callee_register}
 use Rattle.thread_steps.proofs.Blocks.{frame_short}
 use Rattle.thread_steps.proofs.Passing.{frame_filled}
 use Rattle.thread_steps.proofs.Calls.{callers_long, callers_pushed}
@@ -63,9 +63,9 @@ returns c =
     let have : (i : ℕ) → i < count → first + i < length (frame_registers old s.depth s.values) = λ i lt. omega (arith, c.requires.arguments i lt, long) in
     let below : (k : ℕ) → k < 256 * s.depth + 256 → value_at new k ≡ value_at old k = λ k lt. c.fill.ensures.below k (omega (arith, lt, base)) in
     let given : c.fewer-given.result ≡ min f.parameters count = c.fewer-given.ensures in
-    let filled : (k : ℕ) → k < f.values → value_at new (256 * s.depth + 256 + k) ≡ passed_at old (256 * s.depth + first) (min f.parameters count) k = λ k lt.
+    let filled : (k : ℕ) → k < f.values → value_at new (256 * s.depth + 256 + k) ≡ callee_register old (256 * s.depth + first) (min f.parameters count) k = λ k lt.
     ap (λ b. value_at new (b + 256 + k)) (sym base) ∙ c.fill.ensures.filled k lt
-    ∙ ap (λ b. passed_at old (b + first) c.fewer-given.result k) base ∙ ap (λ g. passed_at old (256 * s.depth + first) g k) given in
+    ∙ ap (λ b. callee_register old (b + first) c.fewer-given.result k) base ∙ ap (λ g. callee_register old (256 * s.depth + first) g k) given in
     let one : s.depth + 1 ≡ suc s.depth = omega arith in
     let view : List Caller → List Value → Thread = λ cs l. record {
       id = s.id;

@@ -2,7 +2,7 @@
 use Rattle.std.proofs.Common.{◌≡◌, ℕ, ◌+◌, ◌<◌, length, ◌∙◌, arith}
 use Rattle.std.proofs.lemmas.List.{length-set}
 use Rattle.ideal_machine.specs.Values.{value_at}
-use Rattle.thread_steps.specs.Passing.{passed_at}
+use Rattle.thread_steps.specs.Passing.{callee_register}
 use Rattle.std.specs.Prelude.{slice_set}
 use Rattle.thread_steps.proofs.Passing.{value_set_same, value_set_other, passed_same, all_below}
 use Rattle.thread_steps.proofs.thread.calls.fill.Goals as goal
@@ -19,7 +19,7 @@ loop-k-preserved c =
     record {
       long = length-set rs n v ∙ inv.long;
       below = λ m lt. value_set_other rs n m v (λ e. omega (arith, e, lt)) ∙ inv.below m lt;
-      filled = all_below (λ (m : ℕ). value_at (slice_set rs n v) (c.args.base + 256 + m) ≡ passed_at old c.args.from c.args.given m) k
+      filled = all_below (λ (m : ℕ). value_at (slice_set rs n v) (c.args.base + 256 + m) ≡ callee_register old c.args.from c.args.given m) k
           (λ m lt. value_set_other rs n (c.args.base + 256 + m) v (λ e. omega (arith, e, lt)) ∙ inv.filled m lt)
           (value_set_same rs n v within ∙ c.argument_or_zero-value.ensures
           ∙ passed_same rs old c.args.from c.args.given k (λ lt. inv.below (c.args.from + k) (c.requires.arguments k lt)));
