@@ -46,6 +46,8 @@ const USAGE_LINE: &str = "filc: usage: run, threads, check or code FILE, or demo
 
 const RUN: &[&str] = &["run", "a.c"];
 
+const CHECK: &[&str] = &["check", "a.c"];
+
 /// Makes the call, and compares what came with what the row wants.
 fn check(rt: &impl Abort, alloc: Global, row: &Row<'_>, fails: &Fails<'_>) -> Result<(), Fail> {
     assert!(rt; fails.most > 0);
@@ -201,6 +203,12 @@ fn other_words_are_no_command(rt: HostRuntime) -> Result<(), Fail> {
             ["run", "a.c", "--turns", "1000000001"].as_slice(),
         ),
         ("a word too many", ["run", "a.c", "b.c"].as_slice()),
+        ("check alone", ["check"].as_slice()),
+        ("an option to check", ["check", "-a.c"].as_slice()),
+        (
+            "turns of a check",
+            ["check", "a.c", "--turns", "5"].as_slice(),
+        ),
     ] {
         let row = Row {
             name,
@@ -286,6 +294,51 @@ fn a_device_that_fails_ends_the_call(rt: HostRuntime) -> Result<(), Fail> {
                 most: 2,
                 ..NONE
             },
+        ),
+    ] {
+        check(&rt, rt.alloc(), &row, &fails)?;
+    }
+    Ok(())
+}
+
+#[test]
+fn a_check_ends_as_its_devices_do(rt: HostRuntime) -> Result<(), Fail> {
+    let file = "int x=1 2;";
+    let read_fault = "filc: read fault\n";
+    let other = ["check", "b.c"];
+    for (row, fails) in [
+        (
+            silent(
+                "another name to check",
+                &other,
+                file,
+                Ending::ReadFault,
+                read_fault,
+            ),
+            NONE,
+        ),
+        (
+            silent(
+                "the file to check fails",
+                CHECK,
+                file,
+                Ending::ReadFault,
+                read_fault,
+            ),
+            Fails {
+                files: &[0],
+                ..NONE
+            },
+        ),
+        (
+            silent(
+                "a refusal's line is not written",
+                CHECK,
+                file,
+                Ending::WriteFault,
+                "",
+            ),
+            Fails { err: &[0], ..NONE },
         ),
     ] {
         check(&rt, rt.alloc(), &row, &fails)?;

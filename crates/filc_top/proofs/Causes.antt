@@ -1,6 +1,6 @@
 -- Each step's ending is a cause, and what was read of a file tells what the whole file is.
-use Rattle.std.proofs.Common.{◌≡◌, ℕ, ◌≤◌, ◌<◌, Bool, true, false, List, [], length, take, refl, sym, ap, subst, ◌∙◌, arith}
-use Rattle.std.specs.Prelude.{Option, Some, None, Ok, Err, IfSome, IsSomeAnd, nat_lt, cond}
+use Rattle.std.proofs.Common.{◌≡◌, ℕ, ◌≤◌, ◌<◌, Bool, true, false, List, [], length, take, refl, sym, ap, subst, ◌∙◌, arith, rules}
+use Rattle.std.specs.Prelude.{Option, Some, None, Result, Ok, Err, IfSome, IsSomeAnd, IfErr, IsErrAnd, nat_lt, cond}
 use Rattle.std.proofs.lemmas.List.{take_all, length-take}
 use Rattle.filc_io.specs.Outside.{FilesState, file_named}
 use Rattle.filc_io.specs.declared.outside.TheConstants.{MOST_READ}
@@ -8,14 +8,22 @@ use Rattle.form_tree.specs.Plain.{PlainProgram}
 use Rattle.form_reader.specs.Form.{HasForm}
 use Rattle.filc_num.specs.declared.refusal.Refusal.{Refusal}
 use Rattle.filc_num.specs.declared.refusal.RefusalKind.TheVariants as kind
-use Rattle.c_lexer.specs.Source.{without_splices}
-use Rattle.c_lexer.specs.Tokens.{file_limit, tokens_from, user, last_line_of, lines_of}
+use Rattle.c_lexer.specs.Source.{without_splices, last_line_of, lines_of}
+use Rattle.c_lexer.specs.Tokens.{file_limit, tokens_from, user}
 use Rattle.c_lexer.specs.declared.fault.LexFault.TheVariants as lexer
 use Rattle.c_front.specs.Phases.{refusal, behind_lexer, expanded_tokens_of}
-use Rattle.filc_top.specs.Checking.{IsRefusedFile, before_parser, by_parser, not_checked}
-use Rattle.filc_top.specs.Commands.{IsRun, IsCheck}
+use Rattle.c_lexer.specs.declared.token.Token.{Token}
+use Rattle.c_syntax.specs.declared.file.File.{File}
+use Rattle.c_parser.specs.Parse.{IsFault}
+use Rattle.c_parser.specs.declared.fault.ParseFault.{ParseFault}
+use Rattle.c_parser.specs.declared.fault.ParseFault.TheVariants as parser
+use Rattle.filc_top.specs.Checking.{token_bytes, IsRefusedFile, before_parser, by_parser, not_checked}
+use Rattle.filc_top.specs.Commands.{IsRun, IsCheck, IsNoCommand, IsCommandOf}
+use Rattle.filc_top.specs.Endings.{not_built, of_parser}
+use Rattle.filc_top.specs.declared.command.Command.{Command}
+use Rattle.filc_top.specs.declared.command.Command.TheVariants.{Run, Check}
 use Rattle.filc_top.specs.Headline.{IsFile, NamesFile, to_run, to_check, IsCause, unread, refused, checked, ran, no_memory}
-use Rattle.filc_top.specs.Steps.{HasRead, EndsReading, EndsFrontEnd, EndsCheck, RunsForm}
+use Rattle.filc_top.specs.Steps.{name_in, HasRead, EndsReading, EndsFrontEnd, EndsCheck, RunsForm, HasTree}
 use Rattle.filc_top.specs.declared.ending.Ending.{Ending}
 use Rattle.filc_top.specs.declared.ending.Ending.TheVariants as ending
 
@@ -87,6 +95,62 @@ module _ (file read : List ℕ) (refused_for : Refusal) (is : read ≡ take MOST
       by false short =
           let few : length file ≤ file_limit = lt_fails file_limit (length file) short in
           subst (λ (bytes : List ℕ). IsRefusedFile bytes refused_for) (is ∙ take_all MOST_READ file (omega (arith, few))) why
+
+-- a fault of the parser refuses the file, or is want of memory
+pub check_fault :
+    (file bytes : List ℕ) (tokens : List Token) (fault : ParseFault) → bytes ≡ token_bytes file →
+    expanded_tokens_of file ≡ Ok tokens → IsFault bytes tokens fault → EndsCheck file (of_parser fault)
+check_fault file bytes tokens fault same e is = by fault (subst (λ (b : List ℕ). IsFault b tokens fault) same is)
+  where
+    by : (fault : ParseFault) → IsFault (token_bytes file) tokens fault → EndsCheck file (of_parser fault)
+    by (parser.Syntax line) is = by_parser tokens (parser.Syntax line) e is refl
+    by (parser.Deep line) is = by_parser tokens (parser.Deep line) e is refl
+    by parser.NoMemory is = tt
+
+if_err_and : {T E : Type 0} (r : Result T E) (P Q : E → Type 0) → IsErrAnd r P → ((e : E) → P e → Q e) → IfErr r Q
+if_err_and (Ok x) P Q h f = tt
+if_err_and (Err e) P Q h f = f e h
+
+-- the same of a result whose fault is made from the parser's
+pub check_ended :
+    {T : Type 0} (file bytes : List ℕ) (tokens : List Token) (fault : ParseFault) (r : Result T Ending) → bytes ≡ token_bytes file →
+    expanded_tokens_of file ≡ Ok tokens → IsFault bytes tokens fault → IsErrAnd r (λ ending. ending ≡ of_parser fault) → IfErr r (EndsCheck file)
+check_ended file bytes tokens fault r same e is gives =
+    if_err_and r _ (EndsCheck file) gives (λ ending h. subst (EndsCheck file) (sym h) (check_fault file bytes tokens fault same e is))
+
+-- a file with a tree is refused until its rules are looked at
+pub tree_refused : (file : List ℕ) (tree : File) → HasTree file tree → EndsCheck file (ending.Refused not_built)
+tree_refused file tree has = not_checked has.0 tree has.1 has.2 refl
+
+-- ---- the command
+
+pub names_file : (words : List (List ℕ)) (command : Command) (named : List ℕ) → IsCommandOf words (Some command) → named ≡ name_in command → NamesFile words named
+names_file words (Run name turns) named is same = subst (NamesFile words) (sym same) (to_run turns is)
+names_file words (Check name) named is same = subst (NamesFile words) (sym same) (to_check is)
+
+pub is_command : (words : List (List ℕ)) (command : Command) → IsCommandOf words (Some command) → IsNoCommand words → ⊥
+is_command words (Run name turns) is none = none.runs_none name.now turns is
+is_command words (Check name) is none = none.checks_none name.now is
+
+-- the command runs a file for so many turns
+abbrev pub RunsFor : Command → ℕ → Type 0
+RunsFor (Run name n) turns = turns ≡ n
+RunsFor (Check name) turns = ⊥
+
+pub run_named : (words : List (List ℕ)) (command : Command) (named : List ℕ) (turns : ℕ) → IsCommandOf words (Some command) → named ≡ name_in command → RunsFor command turns → IsRun words named turns
+run_named words (Run name n) named turns is same so_many =
+    subst (λ (x : List ℕ). IsRun words x turns) (sym same) (subst (IsRun words name.now) (sym so_many) is)
+run_named words (Check name) named turns is same so_many = absurd so_many
+
+abbrev pub Checks : Command → Type 0
+Checks (Run name n) = ⊥
+Checks (Check name) = Unit {0}
+
+pub check_named : (words : List (List ℕ)) (command : Command) (named : List ℕ) → IsCommandOf words (Some command) → named ≡ name_in command → Checks command → IsCheck words named
+check_named words (Run name n) named is same checks = absurd checks
+check_named words (Check name) named is same checks = subst (IsCheck words) (sym same) is
+
+-- ---- the causes
 
 module _ (words : List (List ℕ)) (old new : FilesState) (name : List ℕ) where
   pub cause_of_reading : NamesFile words name → (cause : Ending) (output : List ℕ) → EndsReading old new name cause → output ≡ [] → IsCause words old new cause output

@@ -159,4 +159,4 @@ module _ (run first second third : List ℕ) where
   no_turns_after option other = none_of_four (λ file turns is. not_after file turns option other is)
 
   pub no_option_four : (first ≡ codes "--turns" → ⊥) → (second ≡ codes "--turns" → ⊥) → IsNoCommand (run ∷ first ∷ second ∷ third ∷ [])
-  no_option_four before after = none_of_four (λ file turns is. not_four file turns before after is)
+  no_option_four no_first no_second = none_of_four (λ file turns is. not_four file turns no_first no_second is)

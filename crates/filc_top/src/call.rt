@@ -138,9 +138,10 @@ fn check_of_file(alloc: Global, file: &[u8]) -> Ending
     ensures { EndsCheck file.now result }
 {
     match tree_of(alloc, file) {
-        Ok(_) => Ending::Refused(NOT_BUILT),
-        Err(ending) => ending,
+        Ok(_) => {}
+        Err(ending) => return ending,
     }
+    Ending::Refused(NOT_BUILT)
 }
 
 /// Compiles a program and runs it. All memory is taken before the first turn.
