@@ -1,0 +1,4 @@
+pub mod Code
+pub mod Programs
+pub mod Correct
+pub mod Worked
