@@ -46,10 +46,3 @@ mod whole;
 
 pub use fault::PreFault;
 pub use whole::preprocess;
-
-#[cfg(test)]
-mod condition_tests;
-#[cfg(test)]
-mod macro_tests;
-#[cfg(test)]
-mod tests;

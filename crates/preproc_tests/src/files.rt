@@ -1,40 +1,9 @@
 //! Each sentence of the rules, and the faults with their lines.
-//!
-//! The contract says that a list is that of the definition; these rows say that the definition means C.
-//! They were worked out by hand. A file is shown as its expanded tokens but the End: the line and the
-//! text. A fault is shown as it prints for debugging.
 
-use super::*;
-use c_lexer::{Tokens, lex};
+use crate::shown::answer;
+use c_preproc::PreFault;
 use filc_num::{Refusal, RefusalKind};
-use std::alloc::{AllocError, Global};
 use std::test::*;
-
-fn shown(alloc: Global, tokens: &Tokens) -> Result<String, AllocError> {
-    let mut out = String::new(alloc);
-    for token in &tokens.list {
-        let text = tokens
-            .bytes
-            .get(token.start as usize..token.end as usize)
-            .unwrap_or(&[]);
-        if !text.is_empty() {
-            let line = token.line;
-            write!(out, " {line}:")?;
-        }
-        for b in text {
-            out.push(char::from(*b))?;
-        }
-    }
-    Ok(out)
-}
-
-fn answer(alloc: Global, file: &[u8]) -> Result<String, Fail> {
-    let tokens = lex(alloc, file)?;
-    match preprocess(alloc, &tokens) {
-        Ok(expanded) => Ok(shown(alloc, &expanded)?),
-        Err(fault) => Ok(format!(in alloc; "{fault:?}")?),
-    }
-}
 
 /// Where a directive begins and ends, and what its word may be.
 #[test]
@@ -591,94 +560,6 @@ fn conditions(rt: HostRuntime) -> Result<(), Fail> {
         let got = answer(rt.alloc(), file)?;
         assert_eq!(rt; got.as_str(), want, "{name}");
     }
-    Ok(())
-}
-
-/// 23 lines of macros, each of them twice the one before it, the last of 4,194,304 tokens; and then
-/// more.
-fn doubling(alloc: Global, more: &str) -> Result<String, Fail> {
-    let mut file = String::from_str(alloc, "#define a0 x\n")?;
-    for k in 1..23u32 {
-        let half = k - 1;
-        write!(file, "#define a{k} a{half} a{half}\n")?;
-    }
-    file.push_str(more)?;
-    Ok(file)
-}
-
-/// Where the list is too long.
-#[test]
-fn one_token_too_many(rt: HostRuntime) -> Result<(), Fail> {
-    let table = [
-        ("all but the End fit", "a22", "Expanded(24)"),
-        ("the End on a later line", "a22\n\n", "Expanded(25)"),
-        ("a macro behind a token", "x\na22", "Expanded(25)"),
-        ("a token behind a macro", "a22\nx", "Expanded(25)"),
-        (
-            "a condition that fits",
-            "#if a22\n#endif\n",
-            "Directive(24)",
-        ),
-        ("one that does not", "#if a22 1\n#endif\n", "Expanded(24)"),
-        (
-            "a group that isn't active",
-            "#if 0\na22 a22\n#endif\ny",
-            " 27:y",
-        ),
-    ];
-    for (name, more, want) in table {
-        let file = doubling(rt.alloc(), more)?;
-        let got = answer(rt.alloc(), file.as_bytes())?;
-        assert_eq!(rt; got.as_str(), want, "{name}");
-    }
-    Ok(())
-}
-
-/// The longest list: 4,194,303 tokens and the End.
-#[test]
-fn the_longest_list(rt: HostRuntime) -> Result<(), Fail> {
-    let mut more = String::new(rt.alloc());
-    for k in 0..22u32 {
-        write!(more, "a{k} ")?;
-    }
-    let file = doubling(rt.alloc(), more.as_str())?;
-    let tokens = lex(rt.alloc(), file.as_bytes())?;
-    let expanded = preprocess(rt.alloc(), &tokens)?;
-    assert_eq!(rt; expanded.list.len(), 4_194_304);
-    Ok(())
-}
-
-/// A condition that is nested as deep as a file is long.
-#[test]
-fn a_condition_of_a_megabyte(rt: HostRuntime) -> Result<(), Fail> {
-    let table = [
-        ("open parentheses", "(", 1_000_000u32, "Directive(1)"),
-        ("signs", "!", 1_000_000, " 2:x"),
-        ("choices", "1?1:", 250_000, " 2:x"),
-    ];
-    for (name, part, count, want) in table {
-        let mut file = String::from_str(rt.alloc(), "#if ")?;
-        for _ in 0..count {
-            file.push_str(part)?;
-        }
-        file.push_str("1\nx\n#endif\n")?;
-        let got = answer(rt.alloc(), file.as_bytes())?;
-        assert_eq!(rt; got.as_str(), want, "{name}");
-    }
-    Ok(())
-}
-
-/// Sixty macros, each of them twice the one before it, of which the first is nothing.
-#[test]
-fn nothing_doubled_sixty_times(rt: HostRuntime) -> Result<(), Fail> {
-    let mut file = String::from_str(rt.alloc(), "#define e0\n")?;
-    for k in 1..61u32 {
-        let half = k - 1;
-        write!(file, "#define e{k} e{half} e{half}\n")?;
-    }
-    file.push_str("e60 x\n#if e60 1\ny\n#endif\n")?;
-    let got = answer(rt.alloc(), file.as_bytes())?;
-    assert_eq!(rt; got.as_str(), " 62:x 64:y");
     Ok(())
 }
 
