@@ -189,35 +189,110 @@ fn statements_run(rt: HostRuntime) -> Result<(), Fail> {
     Ok(())
 }
 
+/// A row on words that are no command. Where they were taken for one, a file that returns 42 would be run.
+fn usage<'a>(name: &'a str, words: &'a [&'a str]) -> Row<'a> {
+    silent(
+        name,
+        words,
+        "int main(void){return 42;}",
+        Ending::Usage,
+        USAGE_LINE,
+    )
+}
+
 #[test]
-fn other_words_are_no_command(rt: HostRuntime) -> Result<(), Fail> {
-    for (name, words) in [
-        ("no word", [].as_slice()),
-        ("run alone", ["run"].as_slice()),
-        ("another command", ["walk", "a.c"].as_slice()),
-        ("a name that is an option", ["run", "-a.c"].as_slice()),
-        ("no turns", ["run", "a.c", "--turns", "0"].as_slice()),
-        ("a leading zero", ["run", "a.c", "--turns", "07"].as_slice()),
-        (
-            "too many turns",
-            ["run", "a.c", "--turns", "1000000001"].as_slice(),
-        ),
-        ("a word too many", ["run", "a.c", "b.c"].as_slice()),
-        ("check alone", ["check"].as_slice()),
-        ("an option to check", ["check", "-a.c"].as_slice()),
-        (
-            "turns of a check",
-            ["check", "a.c", "--turns", "5"].as_slice(),
+fn a_first_word_and_a_name_are_wanted(rt: HostRuntime) -> Result<(), Fail> {
+    for row in [
+        usage("no word", &[]),
+        usage("an empty word", &[""]),
+        usage("another command", &["walk", "a.c"]),
+        usage("a command in capitals", &["RUN", "a.c"]),
+        usage("the front of a command", &["chec", "a.c"]),
+        usage("the name first", &["a.c", "run"]),
+        usage("an option first", &["--turns", "5", "run", "a.c"]),
+        usage("the page of the script", &["--help"]),
+        usage("the version of the script", &["--version"]),
+        usage("a page of a command", &["run", "--help"]),
+        usage("run alone", &["run"]),
+        usage("check alone", &["check"]),
+        usage("an empty name", &["run", ""]),
+        usage("an empty name of a check", &["check", ""]),
+        usage("a name that is an option", &["run", "-a.c"]),
+        usage("a dash for a name", &["check", "-"]),
+        usage("all words in one", &["run a.c"]),
+        usage("a second name", &["run", "a.c", "b.c"]),
+        usage("an empty word more", &["run", "a.c", ""]),
+    ] {
+        check(&rt, rt.alloc(), &row, &NONE)?;
+    }
+    Ok(())
+}
+
+#[test]
+fn options_are_those_of_their_command(rt: HostRuntime) -> Result<(), Fail> {
+    for row in [
+        usage("an unknown option", &["run", "a.c", "--fast"]),
+        usage("the front of an option", &["run", "a.c", "--turn", "5"]),
+        usage("an option with one dash", &["run", "a.c", "-turns", "5"]),
+        usage("a letter for an option", &["run", "a.c", "-t", "5"]),
+        usage("an option to check", &["check", "-a.c"]),
+        usage("turns of a check", &["check", "a.c", "--turns", "5"]),
+        usage("turns without a number", &["run", "a.c", "--turns"]),
+        usage("turns without a name", &["run", "--turns", "5"]),
+        usage("the name in place of turns", &["run", "--turns", "a.c"]),
+        usage("two numbers", &["run", "a.c", "--turns", "5", "6"]),
+        usage(
+            "turns twice",
+            &["run", "a.c", "--turns", "5", "--turns", "5"],
         ),
     ] {
-        let row = Row {
-            name,
-            words,
-            file: b"int main(void){return 42;}",
-            ending: Ending::Usage,
-            out: "",
-            err: USAGE_LINE,
-        };
+        check(&rt, rt.alloc(), &row, &NONE)?;
+    }
+    Ok(())
+}
+
+#[test]
+fn turns_are_decimal_and_in_their_range(rt: HostRuntime) -> Result<(), Fail> {
+    for row in [
+        usage("no turns", &["run", "a.c", "--turns", "0"]),
+        usage("one too many", &["run", "a.c", "--turns", "1000000001"]),
+        usage("2^32 and one", &["run", "a.c", "--turns", "4294967297"]),
+        usage(
+            "2^64 and one",
+            &["run", "a.c", "--turns", "18446744073709551617"],
+        ),
+        usage("a leading zero", &["run", "a.c", "--turns", "07"]),
+        usage("an empty number", &["run", "a.c", "--turns", ""]),
+        usage("a plus", &["run", "a.c", "--turns", "+5"]),
+        usage("a minus", &["run", "a.c", "--turns", "-5"]),
+        usage("a space", &["run", "a.c", "--turns", " 5"]),
+        usage("an exponent", &["run", "a.c", "--turns", "1e3"]),
+        usage("hexadecimal", &["run", "a.c", "--turns", "0x5"]),
+        usage("commas", &["run", "a.c", "--turns", "1,000"]),
+    ] {
+        check(&rt, rt.alloc(), &row, &NONE)?;
+    }
+    Ok(())
+}
+
+#[test]
+fn turns_may_be_few_and_many(rt: HostRuntime) -> Result<(), Fail> {
+    for row in [
+        silent(
+            "the least number of turns",
+            &["run", "a.c", "--turns", "1"],
+            "int main(void){while(1);}",
+            Ending::Spent,
+            "filc: turns spent\n",
+        ),
+        silent(
+            "the greatest number of turns",
+            &["run", "--turns", "1000000000", "a.c"],
+            "int main(void){return 42;}",
+            Ending::Exited(42),
+            "",
+        ),
+    ] {
         check(&rt, rt.alloc(), &row, &NONE)?;
     }
     Ok(())
