@@ -1,0 +1,4 @@
+pub mod Views
+pub mod Tails
+pub mod Steps
+pub mod Puts

@@ -1,0 +1,279 @@
+//! Operations of several instructions. What is put first stands last.
+
+ghost use Rattle.std.specs.Prelude.{◌≡◌, ◌+◌, [], ◌∷◌, ◌++◌, OnOk};
+ghost use Rattle.c_tree.specs.declared.operation.Access.TheVariants.{Integer, Box};
+ghost use Rattle.c_tree.specs.declared.operation.Operation.TheVariants.{Cas};
+ghost use Rattle.whole_code.specs.declared.op.Op.TheVariants.{Move, PointerAdd};
+ghost use Rattle.expr_gen.specs.Operations.{load_op, store_op};
+ghost use Rattle.expr_gen.specs.Operations.{change_ops, copy_ops, cas_ops, unsigned_of};
+ghost use Rattle.expr_gen.specs.Code.{instructions, op_size};
+ghost use Rattle.tree_play.specs.Memory.{unit_access, unit_bytes};
+ghost use Rattle.expr_emit.specs.Tail.{before, PutsBefore};
+
+use crate::ops::{binary_op, element, load_op, store_op, sum};
+use crate::tail::{Tail, put};
+use c_tree::{Access, Change, Unit};
+use filc_num::{BinOp, IntType};
+use std::alloc::AllocError;
+use whole_code::{Op, type_number};
+
+/// The code of a change: d becomes what it makes of a by b, and s is free.
+pub fn emit_change(
+    tail: &mut Tail,
+    library: bool,
+    line: u32,
+    how: Change,
+    d: u32,
+    s: u32,
+    a: u32,
+    b: u32,
+) -> Result<(), AllocError>
+    ensures { OnOk result
+        (tail.new ≡ before (instructions library line (change_ops how d s a b)) tail.old) }
+{
+    match how {
+        Change::Integer(operator, computed, to) => {
+            let compute = binary_op(operator, computed, d, a, b);
+            let t = type_number(to);
+            put(tail, library, line, &[compute, Op::Convert { d, a: d, t }])
+        }
+        Change::Advance(bytes) => {
+            let bytes = element(bytes)?;
+            put(tail, library, line, &[Op::PointerAdd { d, a, b, bytes }])
+        }
+        Change::Retreat(bytes) => {
+            let bytes = element(bytes)?;
+            let zero = Op::Const { d: s, constant: 0 };
+            let negate = binary_op(BinOp::Sub, IntType::U64, s, s, b);
+            let advance = Op::PointerAdd { d, a, b: s, bytes };
+            put(tail, library, line, &[zero, negate, advance])
+        }
+    }
+}
+
+/// The code of a change of what lies at t, by the right operand in t + 1. The expression's value is in
+/// the register `told`.
+pub fn emit_update(
+    tail: &mut Tail,
+    library: bool,
+    line: u32,
+    lies: Access,
+    how: Change,
+    t: u32,
+    told: u32,
+) -> Result<(), AllocError>
+    ensures { OnOk result (tail.new ≡ before (instructions library line
+        (load_op lies (t + 2) t ∷ change_ops how (t + 1) (t + 3) (t + 2) (t + 1)
+        ++ store_op lies t (t + 1) ∷ Move t told ∷ [])) tail.old) }
+{
+    let new = sum(t, 1)?;
+    let old = sum(t, 2)?;
+    let free = sum(t, 3)?;
+    let store = store_op(lies, t, new);
+    put(tail, library, line, &[store, Op::Move { d: t, a: told }])?;
+    emit_change(tail, library, line, how, new, free, old, new)?;
+    put(tail, library, line, &[load_op(lies, old, t)])
+}
+
+/// How a unit of a structure lies.
+fn unit_access(unit: Unit) -> Access
+    ensures { result ≡ unit_access unit }
+{
+    match unit {
+        Unit::Byte => Access::Integer(IntType::U8),
+        Unit::TwoBytes => Access::Integer(IntType::U16),
+        Unit::FourBytes => Access::Integer(IntType::U32),
+        Unit::Pointer => Access::Pointer,
+    }
+}
+
+/// How many bytes a unit of a structure has.
+fn unit_bytes(unit: Unit) -> u32
+    ensures { result ≡ unit_bytes unit }
+{
+    match unit {
+        Unit::Byte => 1,
+        Unit::TwoBytes => 2,
+        Unit::FourBytes => 4,
+        Unit::Pointer => 8,
+    }
+}
+
+/// d goes forward by one element of so many bytes.
+fn step_op(d: u32, one: u32, bytes: u32) -> Op
+    ensures { result ≡ PointerAdd d d one bytes }
+{
+    Op::PointerAdd {
+        d,
+        a: d,
+        b: one,
+        bytes,
+    }
+}
+
+/// The code of a copy of so many units, from the address in t + 1 to that in t.
+pub fn emit_copy(
+    tail: &mut Tail,
+    library: bool,
+    line: u32,
+    unit: Unit,
+    count: u64,
+    t: u32,
+) -> Result<(), AllocError>
+    ensures { OnOk result (PutsBefore 10 (λ at. instructions library line
+        (copy_ops (unit_access unit) (unit_bytes unit) count t at)) tail.old tail.new) }
+{
+    let lies = unit_access(unit);
+    let bytes = unit_bytes(unit);
+    let from = sum(t, 1)?;
+    let to = sum(t, 2)?;
+    let left = sum(t, 3)?;
+    let one = sum(t, 4)?;
+    let value = sum(t, 5)?;
+    let end = tail.start();
+    let test = end.saturating_sub(7);
+    let ops = [
+        Op::Move { d: to, a: t },
+        Op::Const {
+            d: left,
+            constant: count,
+        },
+        Op::Const {
+            d: one,
+            constant: 1,
+        },
+        Op::JumpZero {
+            a: left,
+            target: end,
+        },
+        load_op(lies, value, from),
+        store_op(lies, to, value),
+        step_op(to, one, bytes),
+        step_op(from, one, bytes),
+        binary_op(BinOp::Sub, IntType::U64, left, left, one),
+        Op::Jump { target: test },
+    ];
+    put(tail, library, line, &ops)
+}
+
+/// The unsigned type of as many bytes.
+fn unsigned_of(ty: IntType) -> IntType
+    ensures { result ≡ unsigned_of ty }
+{
+    match ty {
+        IntType::Bool | IntType::I8 | IntType::U8 => IntType::U8,
+        IntType::I16 | IntType::U16 => IntType::U16,
+        IntType::I32 | IntType::U32 => IntType::U32,
+        IntType::I64 | IntType::U64 => IntType::U64,
+    }
+}
+
+/// The code of a compare and exchange of an integer.
+fn emit_int_exchange(
+    tail: &mut Tail,
+    library: bool,
+    line: u32,
+    ty: IntType,
+    t: u32,
+) -> Result<(), AllocError>
+    ensures { OnOk result (PutsBefore 10
+        (λ at. instructions library line (cas_ops (Integer ty) t at)) tail.old tail.new) }
+{
+    let p = sum(t, 1)?;
+    let n = sum(t, 2)?;
+    let e = sum(t, 3)?;
+    let found = sum(t, 4)?;
+    let made = sum(t, 5)?;
+    let end = tail.start();
+    let failed = end.saturating_sub(3);
+    let ty_number = type_number(ty);
+    let low = type_number(unsigned_of(ty));
+    let ops = [
+        Op::LoadInt {
+            d: e,
+            p,
+            t: ty_number,
+        },
+        Op::CasInt {
+            d: found,
+            p: t,
+            e,
+            n,
+            t: ty_number,
+        },
+        Op::Convert {
+            d: made,
+            a: e,
+            t: low,
+        },
+        binary_op(BinOp::Eq, IntType::U64, made, found, made),
+        Op::JumpZero {
+            a: made,
+            target: failed,
+        },
+        Op::Const { d: t, constant: 1 },
+        Op::Jump { target: end },
+        Op::Convert {
+            d: found,
+            a: found,
+            t: ty_number,
+        },
+        Op::StoreInt {
+            p,
+            a: found,
+            t: ty_number,
+        },
+        Op::Const { d: t, constant: 0 },
+    ];
+    put(tail, library, line, &ops)
+}
+
+/// The code of a compare and exchange of a pointer.
+fn emit_pair_exchange(tail: &mut Tail, library: bool, line: u32, t: u32) -> Result<(), AllocError>
+    ensures { OnOk result (PutsBefore 7
+        (λ at. instructions library line (cas_ops Box t at)) tail.old tail.new) }
+{
+    let p = sum(t, 1)?;
+    let n = sum(t, 2)?;
+    let e = sum(t, 3)?;
+    let found = sum(t, 4)?;
+    let made = sum(t, 5)?;
+    let end = tail.start();
+    let failed = end.saturating_sub(2);
+    let ops = [
+        Op::LoadPointer { d: e, p },
+        Op::BoxCas {
+            d: found,
+            w: made,
+            p: t,
+            e,
+            n,
+        },
+        Op::JumpZero {
+            a: made,
+            target: failed,
+        },
+        Op::Const { d: t, constant: 1 },
+        Op::Jump { target: end },
+        Op::StorePointer { p, a: found },
+        Op::Const { d: t, constant: 0 },
+    ];
+    put(tail, library, line, &ops)
+}
+
+/// The code of a compare and exchange.
+pub fn emit_exchange(
+    tail: &mut Tail,
+    library: bool,
+    line: u32,
+    lies: Access,
+    t: u32,
+) -> Result<(), AllocError>
+    ensures { OnOk result (PutsBefore (op_size (Cas lies))
+        (λ at. instructions library line (cas_ops lies t at)) tail.old tail.new) }
+{
+    match lies {
+        Access::Integer(ty) => emit_int_exchange(tail, library, line, ty, t),
+        Access::Pointer | Access::Box => emit_pair_exchange(tail, library, line, t),
+    }
+}
