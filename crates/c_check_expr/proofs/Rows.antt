@@ -31,6 +31,7 @@ use Rattle.c_tree.specs.declared.operation.Change.TheVariants as change
 use Rattle.c_tree.specs.declared.operation.Piece.TheVariants as piece
 use Rattle.c_check_expr.specs.declared.known.Known.{Known}
 use Rattle.c_check_expr.specs.declared.known.Known.TheVariants as known
+use Rattle.c_scope.specs.Scopes.{no_names}
 use Rattle.c_check_expr.specs.Outcomes.{State, Contents, Checked, Fine, Breaks, Broke}
 use Rattle.c_check_expr.specs.TypedExpressions.{Typed, tree_of, part_of, link, unit_of}
 use Rattle.c_check_expr.specs.Expressions.{Around, typed_value}
@@ -144,7 +145,16 @@ module _ (object : DeclaredObject) (function : DeclaredFunction) (extent : Exten
 
   abbrev start : State
   start =
-      record { visible = among declarations 0; table = table; contents = members; next_static = 5; literals = []; used = []; taken = [] }
+      record {
+        visible = among declarations 0;
+        table = table;
+        contents = members;
+        next_static = 5;
+        literals = [];
+        used = [];
+        taken = [];
+        above = record { names = no_names; next_local = 0; locals = []; placed = []; filled = [] };
+      }
 
   abbrev spelled : ℕ → List ℕ
   spelled x =

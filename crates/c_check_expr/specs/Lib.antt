@@ -1,3 +1,4 @@
+pub mod Above
 pub mod Outcomes
 pub mod IntegerTypes
 pub mod Constants

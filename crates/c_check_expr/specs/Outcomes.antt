@@ -9,6 +9,7 @@ use Rattle.std.specs.Prelude.{ℕ, Bool, true, false, not, nat_lt, ◌==◌, ◌
 use Rattle.c_types.specs.declared.entry.Entry.{Entry}
 use Rattle.c_types.specs.declared.ctype.Part.{Part}
 use Rattle.c_tree.specs.declared.declared.Declared.{Declared}
+use Rattle.c_check_expr.specs.Above.{Above}
 
 -- a broken rule, by its number, and the line of the first token of the construct that breaks it
 pub record Broken : Type 0 where
@@ -47,6 +48,8 @@ pub record State : Type 0 where
   -- is used without a body
   pub used : List Declared
   pub taken : List ℕ
+  -- what only declarations and statements look at
+  pub above : Above
 
 -- what is found of a construct; in `Breaks` the construct itself breaks the rule, and in `Broke` an earlier one did
 pub data Checked (A : Type 0) : Type 0 where

@@ -1,0 +1,3 @@
+mod OneAnswer
+pub mod WrittenFiles
+pub mod Rows

@@ -1,0 +1,23 @@
+-- A file has one answer.
+use Rattle.std.proofs.Common.{◌≡◌, sym, subst, ◌∙◌}
+use Rattle.std.specs.Prelude.{Option}
+use Rattle.c_syntax.specs.declared.file.File.{File}
+use Rattle.c_tree.specs.Plain.{PlainProgram}
+use Rattle.c_check_expr.specs.Outcomes.{Broken, Checked, Fine, Breaks, Broke}
+use Rattle.c_check.specs.Files.{Tokens, Ahead, Whole, IsProgramOf, IsRefused, Stops, file_checked}
+use Rattle.c_check.specs.Laws.{HasOneAnswer}
+
+stops_once : {A : Type 0} (c : Checked A) (a b : Broken) → Stops c a → Stops c b → a ≡ b
+stops_once (Fine s x) a b p q = absurd p
+stops_once (Breaks broken s known) a b p q = sym p ∙ q
+stops_once (Broke broken) a b p q = sym p ∙ q
+
+nothing_ahead : Ahead
+nothing_ahead = record { taken = λ n. Rattle.std.specs.Prelude.[]; kinds = Rattle.std.specs.Prelude.[]; lock = 0 }
+
+pub one_answer : (t : Tokens) (file : File) → HasOneAnswer t file
+one_answer t file =
+    record {
+      one = λ program broken p r. subst (λ (c : Checked Whole). Stops c broken) p.accepted (r p.ahead);
+      same = λ a b p q. stops_once (file_checked t nothing_ahead file) a b (p nothing_ahead) (q nothing_ahead);
+    }

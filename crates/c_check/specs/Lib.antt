@@ -1,0 +1,16 @@
+pub mod Constructs
+pub mod Types
+pub mod Naming
+pub mod Declarators
+pub mod Tags
+pub mod Specifiers
+pub mod Initialising
+pub mod Declaring
+pub mod Statements
+pub mod Values
+pub mod Functions
+pub mod Statics
+pub mod Operations
+pub mod Kinds
+pub mod Files
+pub mod Laws

@@ -1,0 +1,74 @@
+-- Names in a state: what a declaration makes its name stand for, or that it is declared again (C11 6.2.1, 6.7p3): rule
+-- 2.
+use Rattle.std.specs.Prelude.{ℕ, Bool, true, false, not, List, Option, Some, None, is_none}
+use Rattle.c_tree.specs.declared.declared.Declared.{Declared}
+use Rattle.c_tree.specs.declared.declared.Declared.TheVariants as declared
+use Rattle.c_types.specs.declared.entry.Entry.{Entry}
+use Rattle.c_scope.specs.Again.{is_linked}
+use Rattle.c_scope.specs.Blocks.{Naming, visible, declared_in, innermost}
+use Rattle.c_scope.specs.Scopes.{Names, with_block, without_block, with_name, space_of, declaration_in}
+use Rattle.c_check_expr.specs.Outcomes.{State, Checked, Fine, Breaks, Broke}
+use Rattle.c_check_expr.specs.Expressions.{Around}
+
+-- these names, and what each number stands for by them
+abbrev pub with_names : Around → Names → State → State
+with_names around names s =
+    record s { above = record s.above { names = names }; visible = (λ n. visible (around.spelling n) names.ordinary) }
+
+abbrev pub in_scope : Around → State → State
+in_scope around s = with_names around (with_block s.above.names) s
+
+abbrev pub out_of_scope : Around → State → State
+out_of_scope around s = with_names around (without_block s.above.names) s
+
+-- what is found in a block is left as what is found
+abbrev pub leaves : {A : Type 0} → Around → Checked A → Checked A
+leaves around (Fine s x) = Fine (out_of_scope around s) x
+leaves around (Breaks broken s known) = Breaks broken (out_of_scope around s) known
+leaves around (Broke broken) = Broke broken
+
+-- what a scope of its own has
+abbrev pub scoped : {A : Type 0} → Around → State → (State → Checked A) → Checked A
+scoped around s inside = leaves around (inside (in_scope around s))
+
+abbrev pub naming : Around → ℕ → Declared → Naming
+naming around name what = record { name = around.spelling name; what = what }
+
+-- what the name would stand for; nothing where it is declared again
+abbrev pub declaration : Around → State → ℕ → Declared → Option Declared
+declaration around s name what = declaration_in s.above.names (space_of what) (around.spelling name) what
+
+abbrev pub is_again : Around → State → ℕ → Declared → Bool
+is_again around s name what = is_none (declaration around s name what)
+
+abbrev pub with_declared : Around → State → ℕ → Option Declared → State
+with_declared around s name None = s
+with_declared around s name (Some what) =
+    with_names around (with_name (space_of what) (naming around name what) s.above.names) s
+
+-- the state with it, which is the same one where it is declared again
+abbrev pub declares : Around → State → ℕ → Declared → State
+declares around s name what = with_declared around s name (declaration around s name what)
+
+-- ---- what a name has already
+
+-- what stands here without linkage and is no typedef may not be declared again, whatever type comes
+abbrev pub stands_alone : Option Declared → Bool
+stands_alone (Some (declared.Object o)) = not (is_linked o.linkage)
+stands_alone (Some (declared.Constant v)) = true
+stands_alone _ = false
+
+abbrev pub is_name_taken : Around → State → ℕ → Bool
+is_name_taken around s name = stands_alone (declared_in (around.spelling name) (innermost s.above.names.ordinary))
+
+abbrev pub linked : Around → State → ℕ → Option Declared
+linked around s name = visible (around.spelling name) s.above.names.linked
+
+abbrev pub tag_visible : Around → State → ℕ → Option Declared
+tag_visible around s name = visible (around.spelling name) s.above.names.tags
+
+abbrev pub tag_here : Around → State → ℕ → Option Declared
+tag_here around s name = declared_in (around.spelling name) (innermost s.above.names.tags)
+
+abbrev pub with_types : List Entry → State → State
+with_types table s = record s { table = table }
