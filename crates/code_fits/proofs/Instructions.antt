@@ -143,6 +143,7 @@ module _ (named : Named) (f : PlainFunction) where
   change_formed (change.Integer op computed to) d s a b fit hd hs ha hb =
       (binary_formed op computed d a b hd ha hb fit, (formed (Convert d d (type_number to)) (hd, tt) (hd, tt) tt tt (type_within to), tt))
   change_formed (change.Advance bytes) d s a b fit hd hs ha hb = (formed (PointerAdd d a b bytes) (ha, (hb, tt)) (hd, tt) tt tt tt, tt)
-  change_formed (change.Retreat bytes) d s a b fit hd hs ha hb =
-      (formed (Const s 0) tt (hs, tt) tt tt tt,
-      (binary_formed Sub U64 s s b hs hs hb refl, (formed (PointerAdd d a s bytes) (ha, (hs, tt)) (hd, tt) tt tt tt, tt)))
+  change_formed (change.Retreat bytes) d s a b fit hd hs ha hb = (
+    formed (Const s 0) tt (hs, tt) tt tt tt,
+    (binary_formed Sub U64 s s b hs hs hb refl, (formed (PointerAdd d a s bytes) (ha, (hs, tt)) (hd, tt) tt tt tt, tt)),
+  )

@@ -54,17 +54,34 @@ module _ (outline : Outline) (f : PlainFunction) where
       let h3 : t + 3 < f.values = omega arith in
       let h4 : t + 4 < f.values = omega arith in
       let h5 : t + 5 < f.values = omega arith in
-      let back : at + 3 < length f.instructions = omega arith in
-      (formed n f (Move (t + 2) t) (h0, tt) (h2, tt) tt tt tt,
-      (formed n f (Const (t + 3) count) tt (h3, tt) tt tt tt,
-      (formed n f (Const (t + 4) 1) tt (h4, tt) tt tt tt,
-      (formed n f (JumpZero (t + 3) (at + 10)) (h3, tt) tt inside tt tt,
-      (load_formed n f lies (t + 5) (t + 1) h5 h1,
-      (store_formed n f lies (t + 2) (t + 5) h2 h5,
-      (formed n f (PointerAdd (t + 2) (t + 2) (t + 4) bytes) (h2, (h4, tt)) (h2, tt) tt tt tt,
-      (formed n f (PointerAdd (t + 1) (t + 1) (t + 4) bytes) (h1, (h4, tt)) (h1, tt) tt tt tt,
-      (binary_formed n f Sub U64 (t + 3) (t + 3) (t + 4) h3 h3 h4 refl,
-      (formed n f (Jump (at + 3)) tt tt back tt tt, tt))))))))))
+      let back : at + 3 < length f.instructions = omega arith in (
+        formed n f (Move (t + 2) t) (h0, tt) (h2, tt) tt tt tt,
+        (
+          formed n f (Const (t + 3) count) tt (h3, tt) tt tt tt,
+          (
+            formed n f (Const (t + 4) 1) tt (h4, tt) tt tt tt,
+            (
+              formed n f (JumpZero (t + 3) (at + 10)) (h3, tt) tt inside tt tt,
+              (
+                load_formed n f lies (t + 5) (t + 1) h5 h1,
+                (
+                  store_formed n f lies (t + 2) (t + 5) h2 h5,
+                  (
+                    formed n f (PointerAdd (t + 2) (t + 2) (t + 4) bytes) (h2, (h4, tt)) (h2, tt) tt tt tt,
+                    (
+                      formed n f (PointerAdd (t + 1) (t + 1) (t + 4) bytes) (h1, (h4, tt)) (h1, tt) tt tt tt,
+                      (
+                        binary_formed n f Sub U64 (t + 3) (t + 3) (t + 4) h3 h3 h4 refl,
+                        (formed n f (Jump (at + 3)) tt tt back tt tt, tt),
+                      ),
+                    ),
+                  ),
+                ),
+              ),
+            ),
+          ),
+        ),
+      )
 
   pair_formed : (t at : ℕ) → t + 7 ≤ f.values → at + 7 < length f.instructions → AreOps n f (cas_ops access.Box t at)
   pair_formed t at wide inside =
@@ -74,14 +91,25 @@ module _ (outline : Outline) (f : PlainFunction) where
       let h3 : t + 3 < f.values = omega arith in
       let h4 : t + 4 < f.values = omega arith in
       let h5 : t + 5 < f.values = omega arith in
-      let failed : at + 5 < length f.instructions = omega arith in
-      (formed n f (LoadPointer (t + 3) (t + 1)) (h1, tt) (h3, tt) tt tt tt,
-      (formed n f (BoxCas (t + 4) (t + 5) t (t + 3) (t + 2)) (h0, (h3, (h2, tt))) (h4, (h5, tt)) tt tt tt,
-      (formed n f (JumpZero (t + 5) (at + 5)) (h5, tt) tt failed tt tt,
-      (formed n f (Const t 1) tt (h0, tt) tt tt tt,
-      (formed n f (Jump (at + 7)) tt tt inside tt tt,
-      (formed n f (StorePointer (t + 1) (t + 4)) (h1, (h4, tt)) tt tt tt tt,
-      (formed n f (Const t 0) tt (h0, tt) tt tt tt, tt)))))))
+      let failed : at + 5 < length f.instructions = omega arith in (
+        formed n f (LoadPointer (t + 3) (t + 1)) (h1, tt) (h3, tt) tt tt tt,
+        (
+          formed n f (BoxCas (t + 4) (t + 5) t (t + 3) (t + 2)) (h0, (h3, (h2, tt))) (h4, (h5, tt)) tt tt tt,
+          (
+            formed n f (JumpZero (t + 5) (at + 5)) (h5, tt) tt failed tt tt,
+            (
+              formed n f (Const t 1) tt (h0, tt) tt tt tt,
+              (
+                formed n f (Jump (at + 7)) tt tt inside tt tt,
+                (
+                  formed n f (StorePointer (t + 1) (t + 4)) (h1, (h4, tt)) tt tt tt tt,
+                  (formed n f (Const t 0) tt (h0, tt) tt tt tt, tt),
+                ),
+              ),
+            ),
+          ),
+        ),
+      )
 
   exchange_formed : (lies : Access) (t at : ℕ) → t + 7 ≤ f.values → at + op_size (op.Cas lies) < length f.instructions → AreOps n f (cas_ops lies t at)
   exchange_formed (access.Integer ty) t at wide inside =
@@ -91,17 +119,34 @@ module _ (outline : Outline) (f : PlainFunction) where
       let h3 : t + 3 < f.values = omega arith in
       let h4 : t + 4 < f.values = omega arith in
       let h5 : t + 5 < f.values = omega arith in
-      let failed : at + 7 < length f.instructions = omega arith in
-      (formed n f (LoadInt (t + 3) (t + 1) (type_number ty)) (h1, tt) (h3, tt) tt tt (type_within ty),
-      (formed n f (CasInt (t + 4) t (t + 3) (t + 2) (type_number ty)) (h0, (h3, (h2, tt))) (h4, tt) tt tt (type_within ty),
-      (formed n f (Convert (t + 5) (t + 3) (type_number (unsigned_of ty))) (h3, tt) (h5, tt) tt tt (type_within (unsigned_of ty)),
-      (binary_formed n f Eq U64 (t + 5) (t + 4) (t + 5) h5 h4 h5 refl,
-      (formed n f (JumpZero (t + 5) (at + 7)) (h5, tt) tt failed tt tt,
-      (formed n f (Const t 1) tt (h0, tt) tt tt tt,
-      (formed n f (Jump (at + 10)) tt tt inside tt tt,
-      (formed n f (Convert (t + 4) (t + 4) (type_number ty)) (h4, tt) (h4, tt) tt tt (type_within ty),
-      (formed n f (StoreInt (t + 1) (t + 4) (type_number ty)) (h1, (h4, tt)) tt tt tt (type_within ty),
-      (formed n f (Const t 0) tt (h0, tt) tt tt tt, tt))))))))))
+      let failed : at + 7 < length f.instructions = omega arith in (
+        formed n f (LoadInt (t + 3) (t + 1) (type_number ty)) (h1, tt) (h3, tt) tt tt (type_within ty),
+        (
+          formed n f (CasInt (t + 4) t (t + 3) (t + 2) (type_number ty)) (h0, (h3, (h2, tt))) (h4, tt) tt tt (type_within ty),
+          (
+            formed n f (Convert (t + 5) (t + 3) (type_number (unsigned_of ty))) (h3, tt) (h5, tt) tt tt (type_within (unsigned_of ty)),
+            (
+              binary_formed n f Eq U64 (t + 5) (t + 4) (t + 5) h5 h4 h5 refl,
+              (
+                formed n f (JumpZero (t + 5) (at + 7)) (h5, tt) tt failed tt tt,
+                (
+                  formed n f (Const t 1) tt (h0, tt) tt tt tt,
+                  (
+                    formed n f (Jump (at + 10)) tt tt inside tt tt,
+                    (
+                      formed n f (Convert (t + 4) (t + 4) (type_number ty)) (h4, tt) (h4, tt) tt tt (type_within ty),
+                      (
+                        formed n f (StoreInt (t + 1) (t + 4) (type_number ty)) (h1, (h4, tt)) tt tt tt (type_within ty),
+                        (formed n f (Const t 0) tt (h0, tt) tt tt tt, tt),
+                      ),
+                    ),
+                  ),
+                ),
+              ),
+            ),
+          ),
+        ),
+      )
   exchange_formed access.Pointer t at wide inside = pair_formed t at wide inside
   exchange_formed access.Box t at wide inside = pair_formed t at wide inside
 
@@ -112,11 +157,12 @@ module _ (outline : Outline) (f : PlainFunction) where
       let h0 : t < f.values = omega arith in
       let h1 : t + 1 < f.values = omega arith in
       let h2 : t + 2 < f.values = omega arith in
-      let h3 : t + 3 < f.values = omega arith in
-      (load_formed n f lies (t + 2) t h2 h0,
-      both n f (change_ops how (t + 1) (t + 3) (t + 2) (t + 1)) (store_op lies t (t + 1) ∷ Move t told ∷ [])
-      (change_formed n f how (t + 1) (t + 3) (t + 2) (t + 1) fit h1 h3 h2 h1)
-      (store_formed n f lies t (t + 1) h0 h1, (formed n f (Move t told) (there, tt) (h0, tt) tt tt tt, tt)))
+      let h3 : t + 3 < f.values = omega arith in (
+        load_formed n f lies (t + 2) t h2 h0,
+        both n f (change_ops how (t + 1) (t + 3) (t + 2) (t + 1)) (store_op lies t (t + 1) ∷ Move t told ∷ [])
+            (change_formed n f how (t + 1) (t + 3) (t + 2) (t + 1) fit h1 h3 h2 h1)
+            (store_formed n f lies t (t + 1) h0 h1, (formed n f (Move t told) (there, tt) (h0, tt) tt tt tt, tt)),
+      )
 
   module _ (here : Context) (t c at : ℕ) (le : here.locals ≤ t) (h0 : t < f.values) (h1 : t + 1 < f.values) (h2 : t + 2 < f.values) (wide : t + 7 ≤ f.values) (room : t + c ≤ f.values) where
     pub ops_formed : (o : Operation) → OpFits outline here o c → at + op_size o < length f.instructions → AreOps n f (operation_ops o t c at)
@@ -164,9 +210,13 @@ module _ (outline : Outline) (f : PlainFunction) where
     ops_formed (op.Swap lies) fit inside = (swap_formed n f lies t t (t + 1) h0 h0 h1, tt)
     ops_formed (op.Cas lies) fit inside = exchange_formed lies t at wide inside
     ops_formed (op.Fetch object o computed) fit inside = (fetch_formed n f object o computed t t (t + 1) h0 h0 h1 fit.2, tt)
-    ops_formed (op.Combine object o computed) fit inside =
-        (fetch_formed n f object o computed (t + 2) t (t + 1) h2 h0 h1 fit.1, (binary_formed n f o computed t (t + 2) (t + 1) h0 h2 h1 fit.1,
-        (formed n f (Convert t t (type_number object)) (h0, tt) (h0, tt) tt tt (type_within object), tt)))
+    ops_formed (op.Combine object o computed) fit inside = (
+      fetch_formed n f object o computed (t + 2) t (t + 1) h2 h0 h1 fit.1,
+      (
+        binary_formed n f o computed t (t + 2) (t + 1) h0 h2 h1 fit.1,
+        (formed n f (Convert t t (type_number object)) (h0, tt) (h0, tt) tt tt (type_within object), tt),
+      ),
+    )
     ops_formed (op.Call g) fit inside =
         (formed n f (Call t g t c) (registers_from n f t c room) (h0, tt) tt (is_there outline.callees g _ fit) tt, tt)
     ops_formed (op.CallPointer kind) fit inside =
@@ -197,16 +247,20 @@ module _ (outline : Outline) (f : PlainFunction) where
         (formed n f (Out (t + operand)) (ho, tt) tt tt tt tt, (formed n f (Const (c + 1) 1) tt (h, tt) tt tt tt, tt))
     piece_formed operands (piece.Put g operand None) fit room =
         let h : c + 1 < f.values = omega arith in
-        let ho : t + operand < f.values = omega (arith, fit.0.1) in
-        (formed n f (Move (c + 1) (t + operand)) (ho, tt) (h, tt) tt tt tt,
-        (formed n f (Call (c + 1) g (c + 1) 1) (h, tt) (h, tt) tt (is_there outline.callees g _ fit.1) tt, tt))
+        let ho : t + operand < f.values = omega (arith, fit.0.1) in (
+          formed n f (Move (c + 1) (t + operand)) (ho, tt) (h, tt) tt tt tt,
+          (formed n f (Call (c + 1) g (c + 1) 1) (h, tt) (h, tt) tt (is_there outline.callees g _ fit.1) tt, tt),
+        )
     piece_formed operands (piece.Put g operand (Some radix)) fit room =
         let h : c + 1 < f.values = omega arith in
         let h2 : c + 2 < f.values = omega arith in
-        let ho : t + operand < f.values = omega (arith, fit.0.1) in
-        (formed n f (Move (c + 1) (t + operand)) (ho, tt) (h, tt) tt tt tt,
-        (formed n f (Const (c + 2) radix) tt (h2, tt) tt tt tt,
-        (formed n f (Call (c + 1) g (c + 1) 2) (registers_from n f (c + 1) 2 (omega arith)) (h, tt) tt (is_there outline.callees g _ fit.1) tt, tt)))
+        let ho : t + operand < f.values = omega (arith, fit.0.1) in (
+          formed n f (Move (c + 1) (t + operand)) (ho, tt) (h, tt) tt tt tt,
+          (
+            formed n f (Const (c + 2) radix) tt (h2, tt) tt tt tt,
+            (formed n f (Call (c + 1) g (c + 1) 2) (registers_from n f (c + 1) 2 (omega arith)) (h, tt) tt (is_there outline.callees g _ fit.1) tt, tt),
+          ),
+        )
 
     pieces_formed : (operands : ℕ) (ps : List Piece) → AllByRecursion (PieceFits outline operands) ps → t + operands ≤ f.values → AreOps n f (pieces_ops ps t c)
     pieces_formed operands [] fit room = tt
@@ -222,8 +276,16 @@ module _ (outline : Outline) (f : PlainFunction) where
       let c = t + operands in
       let h : t < f.values = omega arith in
       let hc : c < f.values = omega arith in
-      let hc1 : c + 1 < f.values = omega arith in
-      (formed n f (Lock t) (h, tt) tt tt tt tt, (formed n f (Const c 0) tt (hc, tt) tt tt tt,
-      both n f (pieces_ops ps t c) (Const (c + 1) 0 ∷ StoreInt t (c + 1) (type_number I32) ∷ Move t c ∷ []) (pieces_formed t c room operands ps fit (omega arith))
-      (formed n f (Const (c + 1) 0) tt (hc1, tt) tt tt tt, (formed n f (StoreInt t (c + 1) (type_number I32)) (h, (hc1, tt)) tt tt tt (type_within I32),
-      (formed n f (Move t c) (hc, tt) (h, tt) tt tt tt, tt)))))
+      let hc1 : c + 1 < f.values = omega arith in (
+        formed n f (Lock t) (h, tt) tt tt tt tt,
+        (
+          formed n f (Const c 0) tt (hc, tt) tt tt tt,
+          both n f (pieces_ops ps t c) (Const (c + 1) 0 ∷ StoreInt t (c + 1) (type_number I32) ∷ Move t c ∷ []) (pieces_formed t c room operands ps fit (omega arith)) (
+            formed n f (Const (c + 1) 0) tt (hc1, tt) tt tt tt,
+            (
+              formed n f (StoreInt t (c + 1) (type_number I32)) (h, (hc1, tt)) tt tt tt (type_within I32),
+              (formed n f (Move t c) (hc, tt) (h, tt) tt tt tt, tt),
+            ),
+          ),
+        ),
+      )

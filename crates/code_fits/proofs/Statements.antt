@@ -68,9 +68,13 @@ module _ (outline : Outline) (f : PlainFunction) (library : Bool) (t : ℕ) (wid
       let h : t < f.values = omega arith in
       let h1 : t + 1 < f.values = omega arith in
       joined n f (instructions library line (case_ops c.value t (index_of c.statement))) (cases_code library line t index_of cases)
-      (of_line n f library line (case_ops c.value t (index_of c.statement))
-      (formed n f (Const (t + 1) c.value) tt (h1, tt) tt tt tt, (binary_formed n f Ne U64 (t + 1) t (t + 1) h1 h h1 refl,
-      (formed n f (JumpZero (t + 1) (index_of c.statement)) (h1, tt) tt (inside c.statement) tt tt, tt))))
+      (of_line n f library line (case_ops c.value t (index_of c.statement)) (
+        formed n f (Const (t + 1) c.value) tt (h1, tt) tt tt tt,
+        (
+          binary_formed n f Ne U64 (t + 1) t (t + 1) h1 h h1 refl,
+          (formed n f (JumpZero (t + 1) (index_of c.statement)) (h1, tt) tt (inside c.statement) tt tt, tt),
+        ),
+      ))
       (cases_formed line index_of cases inside)
 
   return_formed :

@@ -3,7 +3,7 @@
 //! Code is put in place from its end to its beginning. So what a jump forward leads to stands there before the
 //! jump is put, and each jump is known when it is put.
 
-ghost use Rattle.std.specs.Prelude.{◌≡◌, [], ◌∷◌, ◌<◌, length, OnOk};
+ghost use Rattle.std.specs.Prelude.{◌≡◌, [], ◌∷◌, length, OnOk};
 ghost use Rattle.expr_gen.specs.Code.{instructions};
 ghost use Rattle.expr_emit.specs.Tail.{plain_tail, before, Replaces};
 
@@ -61,14 +61,15 @@ impl Tail {
         self.reversed.len()
     }
 
-    /// Another instruction comes in place of the one that has so many behind it.
+    /// Another instruction comes in place of the one that has so many behind it, where there is one.
     pub fn replace(&mut self, behind: usize, instruction: Instruction)
-        requires { behind < length self.old.instructions }
         ensures start { self.new.start ≡ self.old.start }
         ensures instructions { Replaces behind instruction self.old.instructions
             self.new.instructions }
     {
-        self.reversed[behind] = instruction;
+        if behind < self.reversed.len() {
+            self.reversed[behind] = instruction;
+        }
     }
 
     /// The instructions, from the first to the last.

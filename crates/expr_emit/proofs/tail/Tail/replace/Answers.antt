@@ -20,7 +20,7 @@ replaced r front back was i k e n =
     ap (λ l. set l k i) held ∙ ap (λ k. set (reverse back ++ was ∷ reverse front) k i) place ∙ set-append_seam (reverse back) was (reverse front) i in
     ap reverse (done ∙ sym (turned front back i)) ∙ reverse-reverse (front ++ i ∷ back)
 
-pub returns-clause-instructions : goal.returns-clause-instructions
-returns-clause-instructions c =
+pub returns-then-behind-len-clause-instructions : goal.returns-then-behind-len-clause-instructions
+returns-then-behind-len-clause-instructions c =
     λ front back was e n. replaced c.self.inside.reversed.items front back was c.args.instruction c.args.behind
     (ap (λ (t : PlainTail). t.instructions) c.self.view_is ∙ e) n

@@ -1,0 +1,23 @@
+-- Code and sizes over the lists that Rust sees of a statement.
+use Rattle.std.specs.Prelude.{ℕ, zero, suc, ◌+◌, List, [], ◌∷◌, ◌++◌, Bool}
+use Rattle.c_tree.specs.declared.stmt.Stmt.{Stmt}
+use Rattle.whole_code.specs.declared.op.Instruction.{Instruction}
+use Rattle.stmt_gen.specs.Code.{Exits, stmt_size, stmt_code}
+use Rattle.stmt_emit.specs.declared.statement.Exits.{Exits as PutExits}
+
+-- exits, as the code's definition has them
+abbrev pub exits_of : PutExits → Exits
+exits_of exits = record { broke = exits.broke; continued = exits.continued }
+
+abbrev pub statements_size : List Stmt → ℕ
+statements_size [] = 0
+statements_size (s ∷ rest) = stmt_size s + statements_size rest
+
+abbrev pub statements_code : Bool → List Stmt → (t at : ℕ) → Exits → List Instruction
+statements_code library [] t at exits = []
+statements_code library (s ∷ rest) t at exits = stmt_code library s t at exits ++ statements_code library rest t (at + stmt_size s) exits
+
+-- the index where each statement begins, and the index behind the last
+abbrev pub starts_of : List Stmt → (at : ℕ) → List ℕ
+starts_of [] at = at ∷ []
+starts_of (s ∷ rest) at = at ∷ starts_of rest (at + stmt_size s)
