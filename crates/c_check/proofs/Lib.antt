@@ -1,3 +1,5 @@
 mod OneAnswer
+mod Entries
+mod Deriving
 pub mod WrittenFiles
 pub mod Rows

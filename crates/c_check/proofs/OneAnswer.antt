@@ -2,9 +2,8 @@
 use Rattle.std.proofs.Common.{◌≡◌, sym, subst, ◌∙◌}
 use Rattle.std.specs.Prelude.{Option}
 use Rattle.c_syntax.specs.declared.file.File.{File}
-use Rattle.c_tree.specs.Plain.{PlainProgram}
 use Rattle.c_check_expr.specs.Outcomes.{Broken, Checked, Fine, Breaks, Broke}
-use Rattle.c_check.specs.Files.{Tokens, Ahead, Whole, IsProgramOf, IsRefused, Stops, file_checked}
+use Rattle.c_check.specs.Files.{Tokens, Ahead, Whole, Stops, file_checked}
 use Rattle.c_check.specs.Laws.{HasOneAnswer}
 
 stops_once : {A : Type 0} (c : Checked A) (a b : Broken) → Stops c a → Stops c b → a ≡ b

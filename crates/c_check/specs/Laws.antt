@@ -1,8 +1,15 @@
--- What is to hold of whole files, in words that aren't the definition again.
-use Rattle.std.specs.Prelude.{◌≡◌}
+-- What is to hold of whole files and of their types, in words that aren't the definition again.
+use Rattle.std.specs.Prelude.{◌≡◌, ℕ, List, None}
 use Rattle.c_syntax.specs.declared.file.File.{File}
+use Rattle.c_types.specs.declared.ctype.CType.{CType}
+use Rattle.c_types.specs.declared.ctype.Part.{Part}
+use Rattle.c_types.specs.declared.derivation.Derivation.{Derivation}
+use Rattle.c_types.specs.Declarators.{shape_at, Keeps, IsPlain, IsDerived, IsParameterList, IsAdjusted}
+use Rattle.c_types.specs.Derivations.{lowest_rule}
+use Rattle.c_types.specs.Whole.{IsTypeAt}
 use Rattle.c_tree.specs.Plain.{PlainProgram}
 use Rattle.c_check_expr.specs.Outcomes.{Broken}
+use Rattle.c_check.specs.Types.{Table, with_type, derived, parameter_list, adjusted}
 use Rattle.c_check.specs.Files.{Tokens, IsProgramOf, IsRefused}
 
 -- a file isn't both a program and refused, and is refused by one rule at one line
@@ -12,3 +19,17 @@ pub record HasOneAnswer (t : Tokens) (file : File) : Type 0 where
 
 abbrev pub FilesHaveOneAnswer : Type 0
 FilesHaveOneAnswer = (t : Tokens) (file : File) → HasOneAnswer t file
+
+-- a table keeps what it has, and the types that are made in it are those that their words, lists and declarators say
+pub record TypesAreMade (t : Table) : Type 0 where
+  pub plain : (ty : CType) → Keeps t (with_type t ty).0 × IsPlain (with_type t ty).0 ty (with_type t ty).1
+  pub list :
+      (types : List ℕ)
+      → Keeps t (parameter_list t types).0 × IsParameterList (parameter_list t types).0 types (parameter_list t types).1
+  pub adjusted : (p : Part) → Keeps t (adjusted t p).0 × IsAdjusted t (adjusted t p).0 p (adjusted t p).1
+  pub derived :
+      (base : Part) (ds : List Derivation) → IsTypeAt t base.number → lowest_rule (shape_at t base.number) None ds ≡ None
+      → Keeps t (derived t base ds).0 × IsDerived (derived t base ds).0 base ds (derived t base ds).1
+
+abbrev pub TablesKeepTypes : Type 0
+TablesKeepTypes = (t : Table) → TypesAreMade t

@@ -1,12 +1,11 @@
 -- A file's types in its table, as functions: each gives the table after it, and what was made. An entry that is there
 -- is taken, and any other one is new; a structure, a union or an enumeration is always new.
-use Rattle.std.specs.Prelude.{◌≡◌, ℕ, suc, ◌%◌, ◌==◌, ◌&&◌, ◌≤◌, bit_or, Bool, true, false, IsTrue, List, [], ◌∷◌, ◌++◌, length, slice_set, if◌then◌else◌, Option, Some, None, Result, Ok, Err}
+use Rattle.std.specs.Prelude.{◌≡◌, ℕ, suc, ◌%◌, ◌≤◌, bit_or, Bool, true, IsTrue, List, [], ◌∷◌, ◌++◌, length, slice_set, if◌then◌else◌, Option, Some, None, Result, Ok, Err}
+use Rattle.std.specs.Ordering.{is_eq}
 use mathlib.Core.Path.{refl}
 use native.Mathlib.Decide.{ℕ_discrete, dec_le}
-use Rattle.filc_num.specs.declared.c_int_type.CIntType.{CIntType}
-use Rattle.filc_num.specs.declared.c_int_type.CIntType.TheVariants as kind
 use Rattle.c_types.specs.declared.ctype.CType.{CType}
-use Rattle.c_types.specs.declared.ctype.CType.TheVariants.{Void, Integer, Pointer, ArrayOf, Function}
+use Rattle.c_types.specs.declared.ctype.CType.TheVariants.{Void, Pointer, ArrayOf, Function}
 use Rattle.c_types.specs.declared.ctype.ElementCount.{ElementCount}
 use Rattle.c_types.specs.declared.ctype.Extent.{Extent}
 use Rattle.c_types.specs.declared.ctype.Part.{Part}
@@ -16,6 +15,7 @@ use Rattle.c_types.specs.declared.derivation.Derivation.TheVariants as derivatio
 use Rattle.c_types.specs.declared.entry.Entry.{Entry}
 use Rattle.c_types.specs.declared.entry.Entry.TheVariants.{OfType, NoParameters, Parameters}
 use Rattle.c_types.specs.declared.entry.Tag.{Tag}
+use Rattle.c_types.specs.contracts.entry.EntryOrd.TheImpl as EntryOrder
 use Rattle.c_types.specs.Declarators.{type_in}
 use Rattle.c_types.specs.Extents.{is_align}
 use Rattle.c_types.specs.Sizes.{Room, room_of}
@@ -26,36 +26,8 @@ Table = List Entry
 
 -- ---- an entry is found by what it says
 
-abbrev pub kind_index : CIntType → ℕ
-kind_index kind.Bool = 0
-kind_index kind.Char = 1
-kind_index kind.SignedChar = 2
-kind_index kind.UnsignedChar = 3
-kind_index kind.Short = 4
-kind_index kind.UnsignedShort = 5
-kind_index kind.Int = 6
-kind_index kind.UnsignedInt = 7
-kind_index kind.Long = 8
-kind_index kind.UnsignedLong = 9
-kind_index kind.LongLong = 10
-kind_index kind.UnsignedLongLong = 11
-
-abbrev pub same_part : Part → Part → Bool
-same_part p q = p.number == q.number && p.qualifiers.0 == q.qualifiers.0
-
-abbrev pub same_type : CType → CType → Bool
-same_type Void Void = true
-same_type (Integer a) (Integer b) = kind_index a == kind_index b
-same_type (Pointer p) (Pointer q) = same_part p q
-same_type (ArrayOf a) (ArrayOf b) = same_part a.element b.element && a.count == b.count
-same_type (Function f) (Function g) = f.result == g.result && f.parameters == g.parameters
-same_type _ _ = false
-
 abbrev pub same_entry : Entry → Entry → Bool
-same_entry (OfType a) (OfType b) = same_type a b
-same_entry NoParameters NoParameters = true
-same_entry (Parameters a b) (Parameters c d) = a == c && b == d
-same_entry _ _ = false
+same_entry e f = is_eq ((EntryOrder.ghosts).cmp e f)
 
 abbrev pub place_of : ℕ → Entry → Table → Option ℕ
 place_of n e [] = None
@@ -77,7 +49,7 @@ with_type table ty = part_with 0 (with_entry table (OfType ty))
 
 -- ---- counts and extents
 
-abbrev count_if : (n : ℕ) → Dec (1 ≤ n) → Option ElementCount
+abbrev pub count_if : (n : ℕ) → Dec (1 ≤ n) → Option ElementCount
 count_if n (yes p) = Some (record { value = n; some = p })
 count_if n (no p) = None
 
@@ -85,7 +57,7 @@ count_if n (no p) = None
 abbrev pub count_of : ℕ → Option ElementCount
 count_of n = count_if n (dec_le 1 n)
 
-abbrev extent_if : (size align : ℕ) → Dec (1 ≤ size) → Dec (size ≤ 131072) → (b : Bool) → (IsTrue b → IsTrue (is_align align))
+abbrev pub extent_if : (size align : ℕ) → Dec (1 ≤ size) → Dec (size ≤ 131072) → (b : Bool) → (IsTrue b → IsTrue (is_align align))
     → Dec (size % align ≡ 0) → Option Extent
 extent_if size align (yes p) (yes q) true aligned (yes whole) =
     Some (record {
