@@ -14,12 +14,12 @@ use Rattle.c_types.specs.declared.ctype.TypeFault.TheVariants.{Incomplete, TooLa
 use Rattle.c_types.specs.declared.derivation.Derivation.{Derivation}
 use Rattle.c_types.specs.declared.derivation.Derivation.TheVariants as derivation
 use Rattle.c_types.specs.declared.entry.Entry.{Entry}
-use Rattle.c_types.specs.declared.entry.Entry.TheVariants.{OfType}
+use Rattle.c_types.specs.declared.entry.Entry.TheVariants.{OfType, NoParameters, Parameters}
 use Rattle.c_types.specs.declared.rule.TypeRule.{TypeRule}
 use Rattle.c_types.specs.declared.rule.DeriveFault.TheVariants as fault
 use Rattle.c_types.specs.Extents.{IsExtent, is_align}
 use Rattle.c_types.specs.Sizes.{Room, room_of}
-use Rattle.c_types.specs.Derivations.{shape_after, rule_of, lowest_rule, rule_of_elements, known_room_of_elements, room_of_elements}
+use Rattle.c_types.specs.Derivations.{lowest, shape_after, rule_of, lowest_rule, rule_of_elements, known_room_of_elements, room_of_elements}
 use Rattle.c_types.specs.Declarators.{type_in, shape_at, shape_of_any, type_of_entry, IsTypeEntry, Keeps, Makes, IsDerived}
 use Rattle.c_types.specs.Whole.{IsTypeAt}
 use Rattle.c_types.proofs.Deriving.{Keeps-trans, shape_at-keeps, Makes-keeps, Makes-type, Makes-shape, fine_next, no_cause}
@@ -134,8 +134,8 @@ array_made t of count ty there r room (Some e) h =
     is_type : (o : Option Entry) (ty : CType) → type_of_entry o ≡ Some ty → IsSomeAnd o IsTypeEntry
     is_type None ty h = cc
     is_type (Some (OfType x)) ty h = tt
-    is_type (Some Rattle.c_types.specs.declared.entry.Entry.TheVariants.NoParameters) ty h = cc
-    is_type (Some (Rattle.c_types.specs.declared.entry.Entry.TheVariants.Parameters a b)) ty h = cc
+    is_type (Some NoParameters) ty h = cc
+    is_type (Some (Parameters a b)) ty h = cc
 
 -- elements that break no rule have a room
 elements_made : (t : Table) (of : Part) (count : ElementCount) (o : Option CType) → type_in t of.number ≡ o
@@ -149,11 +149,11 @@ elements_made t of count (Some ty) there fine = by (room_of ty) refl fine where
   by (Err Incomplete) room fine = cc
   by (Err TooLarge) room fine = cc
 
-no_size : (o : Option TypeRule) (r : TypeRule) → Rattle.c_types.specs.Derivations.lowest o (Some r) ≡ None → ⊥
+no_size : (o : Option TypeRule) (r : TypeRule) → lowest o (Some r) ≡ None → ⊥
 no_size None r h = cc
 no_size (Some q) r h = cc
 
-no_list : (o : Option TypeRule) (r : TypeRule) → Rattle.c_types.specs.Derivations.lowest (Some r) o ≡ None → ⊥
+no_list : (o : Option TypeRule) (r : TypeRule) → lowest (Some r) o ≡ None → ⊥
 no_list None r h = cc
 no_list (Some q) r h = cc
 

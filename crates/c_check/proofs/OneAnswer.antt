@@ -1,6 +1,5 @@
 -- A file has one answer.
-use Rattle.std.proofs.Common.{◌≡◌, sym, subst, ◌∙◌}
-use Rattle.std.specs.Prelude.{Option}
+use Rattle.std.proofs.Common.{[], ◌≡◌, sym, subst, ◌∙◌}
 use Rattle.c_syntax.specs.declared.file.File.{File}
 use Rattle.c_check_expr.specs.Outcomes.{Broken, Checked, Fine, Breaks, Broke}
 use Rattle.c_check.specs.Files.{Tokens, Ahead, Whole, Stops, file_checked}
@@ -12,7 +11,7 @@ stops_once (Breaks broken s known) a b p q = sym p ∙ q
 stops_once (Broke broken) a b p q = sym p ∙ q
 
 nothing_ahead : Ahead
-nothing_ahead = record { taken = λ n. Rattle.std.specs.Prelude.[]; kinds = Rattle.std.specs.Prelude.[]; lock = 0 }
+nothing_ahead = record { taken = λ n. []; kinds = [] }
 
 pub one_answer : (t : Tokens) (file : File) → HasOneAnswer t file
 one_answer t file =

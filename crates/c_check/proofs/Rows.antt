@@ -8,11 +8,13 @@ use Rattle.c_syntax.specs.declared.words.BasicType.TheVariants as basic
 use Rattle.c_syntax.specs.declared.words.Qualifier.TheVariants as q
 use Rattle.c_syntax.specs.declared.words.Prefix.TheVariants as p
 use Rattle.c_syntax.specs.declared.words.Storage.TheVariants as w
+use Rattle.c_syntax.specs.declared.words.RecordKind.TheVariants.{Struct}
 use Rattle.c_syntax.specs.declared.file.External.{External}
 use Rattle.c_syntax.specs.declared.file.External.TheVariants as e
 use Rattle.c_syntax.specs.declared.file.StatementKind.TheVariants as s
+use Rattle.c_syntax.specs.declared.expr.TypeName.{TypeName'}
 use Rattle.c_check_expr.specs.Outcomes.{Checked, Fine, Breaks, Broke}
-use Rattle.c_check_expr.proofs.WrittenExpressions.{name, number, text, before, after, called, called_with, pair, divide, add}
+use Rattle.c_check_expr.proofs.WrittenExpressions.{at, name, number, text, parens, before, after, called, called_with, pair, divide, add, equal, size_of, size_of_type}
 use denote.Hole.Carrier.{out, roll, hidden, shown}
 use native.Mathlib.Decide.{ℕ_discrete, dec_le}
 use Rattle.c_syntax.specs.declared.expr.Core.TheViews.{roll-Specifiers, out-Specifiers, roll-Declarator, out-Declarator, roll-EnumConstant, roll-Parameter}
@@ -43,7 +45,7 @@ use Rattle.c_check.specs.Functions.{Made}
 use Rattle.c_check.specs.Operations.{Kind, FunctionOf, function_type, written_type, thread_type}
 use Rattle.c_check.specs.Kinds.{kinds_in, are_numbered_from}
 use Rattle.c_check.specs.Files.{Tokens, Ahead, Whole, around_of, start_state, closed, functions_in, file_checked}
-use Rattle.c_check.proofs.WrittenFiles.{specs, int_at, char_at, void_at, stored, struct_tag, union_tag, struct_of, union_of, enum_of, constant_at, constant_is, plain, pointer_to, array, open_array, takes, parameter, member, int_member, bare, with_value, with_list, declares, declares_one, assertion, does, here, value, switch_on, switch_does, case_of, default, function_at, in_f, main_function, nameless, asserting, declaration, for_with, locals_from, function_pointer}
+use Rattle.c_check.proofs.WrittenFiles.{specs, int_at, char_at, void_at, stored, struct_tag, union_tag, struct_of, nameless_struct, union_of, enum_of, constant_at, constant_is, plain, pointer_to, array, open_array, takes, parameter, member, int_member, bare, with_value, with_list, declares, declares_one, assertion, does, here, value, switch_on, switch_does, case_of, default, function_at, in_f, main_function, nameless, asserting, declaration, for_with, locals_from, function_pointer}
 
 data Seen : Type 0 where
   Accepted : Seen
@@ -59,7 +61,7 @@ abbrev texts : ℕ → List ℕ
 texts n = if n == 1 then codes "abc" else codes "ab"
 
 abbrev spelled : ℕ → List ℕ
-spelled n = if n == 100 then codes "main" else (if n == 101 then codes "putchar" else n ∷ [])
+spelled n = if n == 100 then codes "main" else (if n == 101 then codes "putchar" else (if n == 102 then codes "__filc_printf" else (if n == 103 then codes "__filc_free" else n ∷ [])))
 
 abbrev tokens : Tokens
 tokens =
@@ -72,7 +74,7 @@ tokens =
     }
 
 abbrev nothing_ahead : Ahead
-nothing_ahead = record { taken = (λ n. []); kinds = []; lock = 0 }
+nothing_ahead = record { taken = (λ n. []); kinds = [] }
 
 unfoldable checked_file : List External → Checked Whole
 unfolding roll out hidden shown roll-Specifiers out-Specifiers roll-Declarator out-Declarator roll-EnumConstant roll-Parameter hidden-the_row-Declarator-0 hidden-the_row-Specifier-11 shown-the_row-Specifier-11 hidden-the_row-SwitchItem-2 hidden-the_row-Initialiser-0 hidden-the_row-Expr-0 hidden-the_row-Expr-1 hidden-the_row-Link-2 hidden-the_row-Stmt-0 hidden-the_row-Stmt-1 dec_le ℕ_discrete convert_of binary_of lowest_rule layout_of placements_of named_type same_words with_qualifiers lowest_parameter_rule
@@ -129,6 +131,32 @@ functions_of_two_types : seen (declares_one (int_at 1) (takes 1 51 []) ∷
     declares_one (char_at 2) (takes 2 51 []) ∷ []) ≡ Refused 2 2
 unfolding checked_file
 functions_of_two_types = refl
+
+-- no type makes these equal, though none can be made
+typedef_and_array_without_type : seen (declares_one (stored 1 w.Typedef) (plain 1 9) ∷
+    declares_one (int_at 2) (array 2 9 (number 2 0)) ∷ []) ≡ Refused 2 2
+unfolding checked_file
+typedef_and_array_without_type = refl
+
+object_and_typedef_without_type : seen (declares_one (int_at 1) (plain 1 1) ∷
+    declares_one (stored 2 w.Typedef) (array 2 1 (number 2 0)) ∷ []) ≡ Refused 2 2
+unfolding checked_file
+object_and_typedef_without_type = refl
+
+function_and_array_without_type : seen (declares_one (int_at 1) (takes 1 51 []) ∷
+    declares_one (int_at 2) (array 2 51 (number 2 0)) ∷ []) ≡ Refused 2 2
+unfolding checked_file
+function_and_array_without_type = refl
+
+other_linkage_without_type : seen (declares_one (stored 1 w.Static) (array 1 1 (number 1 2)) ∷
+    declares_one (int_at 2) (array 2 1 (number 2 0)) ∷ []) ≡ Refused 2 2
+unfolding checked_file
+other_linkage_without_type = refl
+
+same_linkage_without_type : seen (declares_one (int_at 1) (array 1 1 (number 1 3)) ∷
+    declares_one (stored 2 w.Extern) (open_array 2 1) ∷ []) ≡ Refused 6 2
+unfolding checked_file
+same_linkage_without_type = refl
 
 two_bodies : seen (in_f [] ∷ in_f [] ∷ []) ≡ Refused 2 1
 unfolding checked_file
@@ -193,6 +221,36 @@ same_size_by_an_initialiser : seen (declares_one (int_at 1) (array 1 1 (number 1
     declares (int_at 1) (with_list 2 (open_array 1 1) (number 2 1 ∷ []) ∷ []) ∷ []) ≡ Accepted
 unfolding checked_file
 same_size_by_an_initialiser = refl
+
+expression_that_says_no_size : seen (declares_one (int_at 1) (array 1 1 (number 1 3)) ∷
+    declares (int_at 2) (with_value (open_array 2 1) (number 3 1) ∷ []) ∷ []) ≡ Refused 11 3
+unfolding checked_file
+expression_that_says_no_size = refl
+
+initialiser_that_may_not_stand : seen (declares_one (int_at 1) (array 1 1 (number 1 3)) ∷
+    in_f (here (stored 2 w.Extern) (with_list 3 (open_array 2 1) (number 3 1 ∷ []) ∷ []) ∷ []) ∷ []) ≡ Refused 11 3
+unfolding checked_file
+initialiser_that_may_not_stand = refl
+
+-- `struct s{char c[131072];}x;`, and in a block `struct s a[]={x, ..};`
+abbrev two_large : (second : ℕ) → List External
+two_large second =
+    declares (specs 1 (struct_of 20 (member 1 (char_at 1) (array 1 1 (number 1 131072)) ∷ [])) [])
+    (bare (plain 1 2) ∷ []) ∷
+    in_f (here (specs 2 (struct_tag 20) []) (with_list 3 (open_array 2 1) (name 3 2 ∷ name 4 second ∷ []) ∷ []) ∷ []) ∷ []
+
+too_large_by_an_initialiser : seen (two_large 2) ≡ Refused 5 3
+unfolding checked_file
+too_large_by_an_initialiser = refl
+
+item_before_too_large : seen (two_large 3) ≡ Refused 1 4
+unfolding checked_file
+item_before_too_large = refl
+
+-- otherwise than in C11, an array has the size that its initialiser says in the initialiser too
+size_in_its_own_initialiser : seen (in_f (here (int_at 1) (with_list 1 (open_array 1 1) (size_of 1 (name 1 1) ∷ []) ∷ []) ∷ []) ∷ []) ≡ Accepted
+unfolding checked_file
+size_in_its_own_initialiser = refl
 
 body_and_initialiser : seen (in_f [] ∷ declares (void_at 2) (with_value (takes 2 50 []) (number 3 1) ∷ []) ∷ []) ≡ Refused 2 2
 unfolding checked_file
@@ -303,6 +361,10 @@ structure_result : seen (declares_one (specs 1 (struct_of 20 (int_member 1 1 ∷
 unfolding checked_file
 structure_result = refl
 
+body_of_a_void_object : seen (function_at 1 (void_at 1) (plain 1 51) [] ∷ []) ≡ Refused 4 1
+unfolding checked_file
+body_of_a_void_object = refl
+
 structure_parameter : seen (declares (specs 1 (struct_of 20 (int_member 1 1 ∷ [])) []) [] ∷
     declares_one (int_at 1) (takes 2 51 (parameter 3 (specs 3 (struct_tag 20) []) (plain 3 1) ∷ [])) ∷
     []) ≡ Refused 7 2
@@ -343,10 +405,17 @@ unfolding checked_file
 tag_alone = refl
 
 structure_alone : seen (declares (specs 1
-    (k.Record Rattle.c_syntax.specs.declared.words.RecordKind.TheVariants.Struct None (Some (int_member 1 1 ∷
+    (k.Record Struct None (Some (int_member 1 1 ∷
     []))) []) [] ∷ []) ≡ Refused 40 1
 unfolding checked_file
 structure_alone = refl
+
+-- `struct{int a[sizeof(enum{A})];};`
+constant_in_a_size : seen (declares (specs 1 (nameless_struct (member 1 (int_at 1)
+    (array 1 1 (size_of_type 1 (TypeName' (at 1 0 0) (specs 1 (enum_of (constant_at 1 1 ∷ [])) []) (nameless 1)))) ∷ [])) []) [] ∷
+    declares_one (int_at 2) (plain 2 1) ∷ []) ≡ Refused 2 2
+unfolding checked_file
+constant_in_a_size = refl
 
 nothing_in_a_block : seen (in_f (here (int_at 2) [] ∷ []) ∷ []) ≡ Refused 40 2
 unfolding checked_file
@@ -409,6 +478,11 @@ text_that_is_too_long : seen (declares (char_at 1) (with_value (array 1 1 (numbe
 unfolding checked_file
 text_that_is_too_long = refl
 
+text_for_atomic_characters : seen (declares (specs 1 (k.Qualifier q.Atomic) (k.Basic basic.Char ∷ []))
+    (with_value (open_array 1 1) (text 1 1) ∷ []) ∷ []) ≡ Accepted
+unfolding checked_file
+text_for_atomic_characters = refl
+
 text_says_the_size : seen (declares (char_at 1) (with_value (open_array 1 1) (text 1 1) ∷ []) ∷ []) ≡ Accepted
 unfolding checked_file
 text_says_the_size = refl
@@ -455,6 +529,11 @@ halves_of_a_pointer : statics_in (checked_file (declares_one (int_at 1) (plain 1
     []
 unfolding checked_file
 halves_of_a_pointer = refl
+
+-- it is an object of zeros, though nothing defines or uses it
+extern_object_alone : words_of (declares_one (stored 1 w.Extern) (plain 1 1) ∷ main_function ∷ []) ≡ 0 ∷ []
+unfolding checked_file
+extern_object_alone = refl
 
 store_of_an_item : bodies_in (checked_file (function_at 1 (int_at 1) (takes 1 100 [])
     (here (int_at 1) (with_list 2 (array 1 1 (number 1 2)) (number 2 7 ∷ []) ∷ []) ∷ []) ∷ [])) ≡
@@ -571,6 +650,32 @@ putchar_of_another_type : seen (declares_one (void_at 1) (takes 1 101 (parameter
 unfolding checked_file
 putchar_of_another_type = refl
 
+-- an operation is called, and nothing else is done with it
+putchar_in_a_block : seen (in_f (here (int_at 1) (bare (takes 1 101 (parameter 1 (int_at 1) (nameless 1) ∷ [])) ∷ []) ∷
+    value (after 2 (name 2 101) (called_with (number 2 65))) ∷ []) ∷ []) ≡ Accepted
+unfolding checked_file
+putchar_in_a_block = refl
+
+putchar_that_is_not_called : seen (declares_one (int_at 2) (takes 2 101 (parameter 2 (int_at 2) (nameless 2) ∷ [])) ∷
+    in_f (value (name 3 101) ∷ []) ∷ []) ≡ Refused 34 2
+unfolding checked_file
+putchar_that_is_not_called = refl
+
+putchar_as_an_argument : seen (declares_one (int_at 2) (takes 2 101 (parameter 2 (int_at 2) (nameless 2) ∷ [])) ∷
+    in_f (value (after 3 (name 3 101) (called_with (pair 3 (name 3 101) equal (number 3 0)))) ∷ []) ∷ []) ≡ Refused 34 2
+unfolding checked_file
+putchar_as_an_argument = refl
+
+address_of_putchar : seen (declares_one (int_at 2) (takes 2 101 (parameter 2 (int_at 2) (nameless 2) ∷ [])) ∷
+    declares (int_at 3) (with_value (function_pointer 3 1) (name 3 101) ∷ []) ∷ []) ≡ Refused 34 2
+unfolding checked_file
+address_of_putchar = refl
+
+-- `printf` is a name that nothing declares where what it stands for isn't there
+printf_without_its_parts : seen (in_f (value (after 2 (name 2 102) (called_with (text 2 1))) ∷ []) ∷ []) ≡ Refused 1 2
+unfolding checked_file
+printf_without_its_parts = refl
+
 as_many_values_as_there_may_be : seen (function_at 2 (void_at 2) (takes 2 51 []) (locals_from 248) ∷ []) ≡ Accepted
 unfolding checked_file
 as_many_values_as_there_may_be = refl
@@ -579,10 +684,15 @@ too_many_values : seen (function_at 2 (void_at 2) (takes 2 51 []) (locals_from 2
 unfolding checked_file
 too_many_values = refl
 
+values_of_a_declarator : seen (function_at 2 (void_at 2) (takes 2 51 (parameter 2 (int_at 2)
+    (array 2 1 (pair 2 (number 2 1) add (parens 2 (pair 2 (number 2 1) add (number 2 1))))) ∷ [])) (locals_from 245) ∷ []) ≡ Refused 36 2
+unfolding checked_file
+values_of_a_declarator = refl
+
 -- a whole file of so many functions of so many values, and of a static object of so many words
 abbrev closed_with : (functions values words : ℕ) → Option ℕ → Seen
 closed_with functions values words main =
-    seen_of (closed (start_state (around_of tokens nothing_ahead []) 0) (record {
+    seen_of (closed (start_state (around_of tokens nothing_ahead [] None) 0) (record {
       functions = replicate functions (record {
         function = record {
           line = 3;

@@ -70,6 +70,9 @@ union_tag name = k.Record Union (Some name) None
 abbrev pub struct_of : ℕ → List Member → SpecifierKind
 struct_of name members = k.Record Struct (Some name) (Some members)
 
+abbrev pub nameless_struct : List Member → SpecifierKind
+nameless_struct members = k.Record Struct None (Some members)
+
 abbrev pub union_of : ℕ → List Member → SpecifierKind
 union_of name members = k.Record Union (Some name) (Some members)
 

@@ -26,6 +26,7 @@ by_rule line broken s x = outcome_of line (number_in broken) s x
 -- what is round the expressions in a construct
 pub record Here : Type 0 where
   pub around : Around
-  -- the number of a function by its name's, and whether a token is a library header's
-  pub function_number : ℕ → ℕ
+  -- the number of a function by its name's and by whether it is from int to int, and whether a token is a library
+  -- header's
+  pub function_number : (takes_and_gives_int : Bool) → (name : ℕ) → ℕ
   pub is_library : ℕ → Bool

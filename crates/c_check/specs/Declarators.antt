@@ -18,6 +18,7 @@ use Rattle.c_types.specs.declared.derivation.Derivation.TheVariants as derivatio
 use Rattle.c_types.specs.declared.rule.TypeRule.{TypeRule}
 use Rattle.c_types.specs.Declarators.{shape_at}
 use Rattle.c_types.specs.Derivations.{lowest_rule}
+use Rattle.c_types.specs.Sizes.{room_of}
 use Rattle.c_rules.specs.declared.rule.Rule.{Rule as CRule}
 use Rattle.c_rules.specs.Rules.{number_of}
 use Rattle.c_tree.specs.declared.declared.Declared.{Declared}
@@ -37,7 +38,7 @@ use Rattle.c_check_expr.specs.TypedExpressions.{Typed, type_at}
 use Rattle.c_check_expr.specs.Operators.{kind_in}
 use Rattle.c_check_expr.specs.Contexts.{is_integer_constant}
 use Rattle.c_check.specs.Types.{Table, count_of, derived, parameter_list, adjusted}
-use Rattle.c_check.specs.Naming.{is_name_taken, is_again, declares, with_types}
+use Rattle.c_check.specs.Naming.{is_again, declares, with_types}
 use Rattle.c_check.specs.Constructs.{Here}
 
 -- of a list: its storage class, its type, and whether it declares something by itself
@@ -120,18 +121,29 @@ made_type s base ds = let made = derived s.table base ds in (with_types made.0 s
 -- a declarator over its base, with the rules that the thing it declares adds
 abbrev pub declarator_with : (line : ℕ) → Bool → Option CRule → State × Part → (State → Part → List Rule)
     → Checked Part
-declarator_with line is_taken None made rules = by_rules line (rules made.0 made.1) made.0 made.1
-declarator_with line is_taken (Some r) made rules =
-    by_rules line (2 breaks is_taken ∷ number_of r breaks true ∷ []) made.0 made.1
+declarator_with line is_again None made rules = by_rules line (rules made.0 made.1) made.0 made.1
+declarator_with line is_again (Some r) made rules =
+    by_rules line (2 breaks is_again ∷ number_of r breaks true ∷ []) made.0 made.1
 
--- where it has no type, it is declared again if its name is taken whatever its type is
-abbrev pub declarator_type : (line : ℕ) → (is_taken : Bool) → State → Part → List Derivation → (State
+-- where it has no type, it is declared again if no type would do
+abbrev pub declarator_type : (line : ℕ) → (is_again : Bool) → State → Part → List Derivation → (State
     → Part → List Rule) → Checked Part
-declarator_type line is_taken s base ds rules =
-    declarator_with line is_taken (known_rule (type_rule s base ds)) (made_type s base ds) rules
+declarator_type line is_again s base ds rules =
+    declarator_with line is_again (known_rule (type_rule s base ds)) (made_type s base ds) rules
 
 abbrev pub size_rule : State → Part → Option CRule
-size_rule s p = rule_of_room (Rattle.c_types.specs.Sizes.room_of (type_at s p.number))
+size_rule s p = rule_of_room (room_of (type_at s p.number))
+
+-- whether the last of the derivations, which is nearest to the name, makes a function
+abbrev pub is_function_derivation : Derivation → Bool
+is_function_derivation (derivation.Function list more) = true
+is_function_derivation (derivation.BadFunction broken) = true
+is_function_derivation _ = false
+
+abbrev pub makes_function : List Derivation → Bool
+makes_function [] = false
+makes_function (d ∷ []) = is_function_derivation d
+makes_function (d ∷ ds) = makes_function ds
 
 -- ---- arrays' sizes: a count where the constant is one, at least 1 (6.7.6.2p1)
 
@@ -176,7 +188,8 @@ function_formed s scope listed =
     let types = adjusted_types s.table (parameters_in s.table ps) in
     let made = parameter_list types.0 types.1 in
     let list = list_derivation (rule_of_list s.table ps) made.1 in
-    (with_types made.0 s, record { derivations = list ∷ []; prototype = Some (record { listed = kept s.table listed; scope = scope }) })
+    let prototype : Prototype = record { listed = kept s.table listed; scope = scope } in
+    (with_types made.0 s, record { derivations = list ∷ []; prototype = Some prototype })
 
 -- ---- parameters: one with a name is declared, and its declarator is a construct
 
@@ -221,9 +234,10 @@ parameter_found here line index said None s ds =
     let made = made_type s said.ty ds in
     Fine made.0 (record { name = None; line = line; ty = unnamed_type (type_rule s said.ty ds) made })
 parameter_found here line index said (Some name) s ds =
-    next (declarator_type line (is_name_taken here.around s name) s said.ty ds (λ s p. [])) (λ s p.
-    let made = adjusted s.table p in
     let is_register = is_register_word said.storage in
+    let again = is_again here.around s name (parameter_object line index is_register said.ty) in
+    next (declarator_type line again s said.ty ds (λ s p. [])) (λ s p.
+    let made = adjusted s.table p in
     by_rules line (parameter_rules here name line index is_register (with_types made.0 s) made.1)
     (declares here.around (with_types made.0 s) name (parameter_object line index is_register made.1))
     (record { name = Some name; line = line; ty = Ok made.1 }))

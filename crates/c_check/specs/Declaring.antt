@@ -7,8 +7,9 @@
 -- declarator of a typedef                   2 4 5 6 7 33
 -- declarator before a body                  2 4 5 6 7 33
 -- initialiser of what can have none         11
--- initialiser that says an array's size     2
+-- initialiser that says an array's size     2 5
 use Rattle.std.specs.Prelude.{ℕ, suc, ◌==◌, ◌&&◌, ◌||◌, Bool, true, false, not, is_some, List, [], ◌∷◌, ◌++◌, map, codes, slice_get, if◌then◌else◌, Option, Some, None}
+use Rattle.std.specs.Option.{option_or}
 use Rattle.std.specs.Str.{bytes_eq}
 use Rattle.c_syntax.specs.declared.words.Storage.{Storage}
 use Rattle.c_syntax.specs.declared.words.Storage.TheVariants as storage
@@ -37,15 +38,15 @@ use Rattle.c_tree.specs.declared.stmt.LocalKind.TheVariants as local
 use Rattle.c_specifiers.specs.declared.list.Standing.{Standing}
 use Rattle.c_specifiers.specs.declared.list.Standing.TheVariants as standing
 use Rattle.c_declarators.specs.Outermost.{ends_open, with_outermost}
-use Rattle.c_scope.specs.Again.{is_linked}
+use Rattle.c_scope.specs.Again.{is_linked, has_linkage}
 use Rattle.c_check_expr.specs.Above.{Fill, Placed}
 use Rattle.c_check_expr.specs.Outcomes.{State, Checked, Fine, Rule, next, by_rules, also_if_broken, ◌breaks◌}
 use Rattle.c_check_expr.specs.TypedExpressions.{type_at, always_has_home, size_of, or_zero}
 use Rattle.c_check.specs.Constructs.{Here, in_order}
-use Rattle.c_check.specs.Naming.{is_name_taken, is_again, declares, linked}
+use Rattle.c_check.specs.Naming.{is_again, is_again_by_any_type, declares, linked}
 use Rattle.c_check.specs.Types.{count_of}
-use Rattle.c_check.specs.Operations.{is_int, takes_nothing}
-use Rattle.c_check.specs.Declarators.{Said, is_function, made_type, declarator_type, size_rule, size_number, is_register_word, line_of, name_of}
+use Rattle.c_check.specs.Operations.{is_int, takes_nothing, is_int_to_int}
+use Rattle.c_check.specs.Declarators.{Said, is_function, made_type, type_rule, declarator_type, size_rule, size_number, is_register_word, makes_function, line_of, name_of}
 use Rattle.c_check.specs.Specifiers.{Declarators, formed, specifiers_said}
 use Rattle.c_check.specs.Initialising.{Target, Given, characters_of, filled, looked_at, elements_in}
 
@@ -115,28 +116,41 @@ declared_object here place line word has_initialiser name s p =
       definition = object_definition place word has_initialiser;
     })
 
-abbrev pub declared_function : Here → (line : ℕ) → Option Storage → (is_defined : Bool) → ℕ → Part → Declared
-declared_function here line word is_defined name p =
+abbrev pub declared_function : Here → (line : ℕ) → Option Storage → (is_defined : Bool) → ℕ → State → Part → Declared
+declared_function here line word is_defined name s p =
     declared.Function (record {
       line = line;
       ty = p.number;
-      number = here.function_number name;
+      number = here.function_number (is_int_to_int s (type_at s p.number)) name;
       linkage = function_linkage word;
       is_defined = is_defined;
     })
 
--- what the name is to stand for, by its type; a body or an initialiser defines it
-abbrev pub what_declared : Here → Standing → (line : ℕ) → Option Storage → (is_defined : Bool) → ℕ → State → Part
-    → Declared
-what_declared here place line word is_defined name s p =
+-- what the name is to stand for, as a function or none; a body or an initialiser defines it
+abbrev pub thing_declared : Here → Standing → (line : ℕ) → Option Storage → (is_defined : Bool) → ℕ
+    → (is_function : Bool) → State → Part → Declared
+thing_declared here place line word is_defined name is_function s p =
     if is_typedef_word word
     then declared.Typedef p
     else (
-    if is_function (type_at s p.number)
-    then declared_function here line word is_defined name p
+    if is_function
+    then declared_function here line word is_defined name s p
     else declared_object here place line word is_defined name s p)
 
+-- what it is to stand for, by its type
+abbrev pub what_declared : Here → Standing → (line : ℕ) → Option Storage → (is_defined : Bool) → ℕ → State → Part
+    → Declared
+what_declared here place line word is_defined name s p =
+    thing_declared here place line word is_defined name (is_function (type_at s p.number)) s p
+
 -- ---- its rules
+
+-- whether these derivations declare the name again, whatever type they make
+abbrev pub is_name_again : Here → Standing → Said → (line : ℕ) → (is_defined : Bool) → ℕ → State → List Derivation
+    → Bool
+is_name_again here place said line is_defined name s ds =
+    is_again_by_any_type here.around s name
+    (thing_declared here place line said.storage is_defined name (makes_function ds) s said.ty)
 
 -- a function from nothing to int (5.1.2.2.1)
 abbrev pub is_main_type : State → CType → Bool
@@ -148,7 +162,7 @@ is_main here name = bytes_eq (here.around.spelling name) (codes "main")
 
 -- what a file declares, and what has linkage
 abbrev pub is_of_file : Standing → Declared → Bool
-is_of_file place d = is_file place || Rattle.c_scope.specs.Again.has_linkage d
+is_of_file place d = is_file place || has_linkage d
 
 abbrev pub is_main_function : State → Declared → Part → Bool
 is_main_function s (declared.Function f) p = is_main_type s (type_at s p.number)
@@ -251,11 +265,21 @@ are_characters s base ds =
     let made = made_type s base (sized_by ds (count_of 1)) in
     is_some (characters_of made.0 (type_at made.0 made.1.number))
 
-abbrev pub sized : Here → State → Part → List Derivation → Initialiser → List Derivation
-sized here s base ds i =
-    if ends_open ds
-    then sized_by ds (count_of (elements_in here.around (are_characters s base ds) i))
-    else ds
+abbrev pub count_in : Option ℕ → Option ElementCount
+count_in None = None
+count_in (Some n) = count_of n
+
+-- the count that the initialiser of an array without a size says
+abbrev pub count_said : Here → State → Part → List Derivation → Initialiser → Option ElementCount
+count_said here s base ds i =
+    if ends_open ds then count_in (elements_in here.around (are_characters s base ds) i) else None
+
+-- where so many elements make a type too large, but one alone does not
+abbrev pub is_too_large : State → Part → List Derivation → Option ElementCount → Bool
+is_too_large s base ds None = false
+is_too_large s base ds (Some count) =
+    is_some (type_rule s base (sized_by ds (Some count))) &&
+    not (is_some (type_rule s base (sized_by ds (count_of 1))))
 
 abbrev pub elements_of : CType → ℕ
 elements_of (ArrayOf a) = a.count
@@ -271,9 +295,13 @@ sized_before here NoLinkage name s ds = ds
 sized_before here _ name s ds =
     sized_by ds (count_of (count_declared s (linked here.around s name)))
 
--- an initialiser that says another size than an earlier declaration
-abbrev pub size_again : {A : Type 0} → (line : ℕ) → (is_other : Bool) → Checked A → Checked A
-size_again line is_other found = if is_other then also_if_broken line 2 (λ s x. true) found else found
+-- what stands open still has the size that the initialiser says, and any where it says none, since it is refused then
+abbrev pub sized : List Derivation → Option ElementCount → List Derivation
+sized ds count = if ends_open ds then sized_by ds (option_or count (count_of 1)) else ds
+
+-- an initialiser that breaks a rule by the size that it says
+abbrev pub size_breaks : {A : Type 0} → (line rule : ℕ) → (is_broken : Bool) → Checked A → Checked A
+size_breaks line rule is_broken found = if is_broken then also_if_broken line rule (λ s x. true) found else found
 
 -- ---- declarations
 
@@ -282,19 +310,47 @@ abbrev pub name_declared : Here → Standing → Said → (line name : ℕ) → 
     → List Derivation → Checked (Declared × Part)
 name_declared here place said line name has_initialiser s ds =
     let what = what_declared here place line said.storage has_initialiser name in
-    next (declarator_type line (is_name_taken here.around s name) s said.ty ds (declared_rules here place name what))
+    let again = is_name_again here place said line has_initialiser name s ds in
+    next (declarator_type line again s said.ty ds (declared_rules here place name what))
     (λ s p. Fine (behind_declared here line name (what s p) s) (what s p, p))
 
--- in its initialiser's items an array has the size that they say
+-- an array that takes its size from this initialiser, which says none or one that is not too large
+pub record Sizing : Type 0 where
+  pub count : Option ElementCount
+  pub is_too_large : Bool
+
+abbrev pub sizing_of : State → Part → List Derivation → Option ElementCount → Sizing
+sizing_of s base ds count =
+    if is_too_large s base ds count
+    then record { count = None; is_too_large = true }
+    else record { count = count; is_too_large = false }
+
+-- in its initialiser's items an array has the size that they say, if they say one
+abbrev pub items_type : State → Part → List Derivation → Option ElementCount → Part → State × Part
+items_type s base ds None p = (s, p)
+items_type s base ds (Some count) p = made_type s base (sized_by ds (Some count))
+
+abbrev pub is_initialised : Standing → Declared → Bool
+is_initialised place (declared.Object o) = may_be_initialised place o
+is_initialised place d = false
+
+-- the initialiser of a declared thing of this type, whose items say a size
+abbrev pub declared_with : Here → Standing → Sizing → Declared → (declared items : Part) → State → Initialiser
+    → Checked (List Stmt)
+declared_with here place z d p items s i =
+    let line = (initialiser_span i).line in
+    let is_other = is_initialised place d && not (items.number == p.number) in
+    next (size_breaks line 2 is_other (size_breaks line 5 z.is_too_large (given_by here place d items s i)))
+    (λ s g. given_to d s g)
+
 abbrev pub initialised_name : Here → Standing → Said → (line name : ℕ) → State → List Derivation → Initialiser
     → Checked (List Stmt)
 initialised_name here place said line name s ds i =
-    let own = sized here s said.ty ds i in
-    let before = sized_before here (object_linkage place said.storage) name s ds in
-    next (name_declared here place said line name true s (sized here s said.ty before i)) (λ s d.
-    let made = made_type s said.ty own in
-    next (size_again (initialiser_span i).line (not (made.1.number == d.1.number))
-    (given_by here place d.0 made.1 made.0 i)) (λ s g. given_to d.0 s g))
+    let z = sizing_of s said.ty ds (count_said here s said.ty ds i) in
+    let by_earlier = sized_before here (object_linkage place said.storage) name s ds in
+    next (name_declared here place said line name true s (sized by_earlier z.count)) (λ s d.
+    let items = items_type s said.ty ds z.count d.1 in
+    declared_with here place z d.0 d.1 items.1 items.0 i)
 
 abbrev pub init_named : Here → Standing → Said → (line : ℕ) → Option ℕ → State → List Derivation
     → Option Initialiser → Checked (List Stmt)

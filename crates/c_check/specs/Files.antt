@@ -26,18 +26,17 @@ use Rattle.c_check_expr.specs.Expressions.{Around}
 use Rattle.c_check_expr.specs.Contexts.{assertion_constant}
 use Rattle.c_check.specs.Constructs.{Here, in_order}
 use Rattle.c_check.specs.Naming.{with_names}
-use Rattle.c_check.specs.Specifiers.{with_named_types}
+use Rattle.c_check.specs.Specifiers.{no_type_named, with_named_types}
+use Rattle.c_check.specs.Printing.{printer_in}
 use Rattle.c_check.specs.Declaring.{declaration_checked}
 use Rattle.filc_num.specs.declared.c_int_type.CIntType.{CIntType}
 use Rattle.filc_num.specs.declared.c_int_type.CIntType.TheVariants as kind
 use Rattle.c_types.specs.declared.ctype.CType.TheVariants.{Integer}
 use Rattle.c_types.specs.declared.ctype.ElementCount.{ElementCount}
 use Rattle.c_types.specs.declared.derivation.Derivation.TheVariants as derivation
-use Rattle.c_scope.specs.Blocks.{declared_in}
-use Rattle.c_check_expr.specs.TypedExpressions.{part_of}
 use Rattle.c_check_expr.specs.Calls.{Printer}
 use Rattle.c_check.specs.Types.{Table, count_of, with_type, derived, qualified}
-use Rattle.c_check.specs.Operations.{operation_at, bodiless_number, start_of, thread_type, is_operation}
+use Rattle.c_check.specs.Operations.{operation_at, bodiless_number, start_of, thread_type}
 use Rattle.c_check.specs.Kinds.{AreKinds}
 use Rattle.c_check.specs.Statics.{PlainStatic, statics_below}
 use Rattle.c_check.specs.Functions.{Made, function_checked}
@@ -67,9 +66,10 @@ abbrev pub number_or : ℕ → Option ℕ → ℕ
 number_or other None = other
 number_or other (Some n) = n
 
-abbrev pub number_of_function : (spelling : ℕ → List ℕ) → (bodies : List ℕ) → (name : ℕ) → ℕ
-number_of_function spelling bodies name =
-    number_or (bodiless_number (length bodies) (spelling name) name) (place_from 0 name bodies)
+abbrev pub number_of_function : (spelling : ℕ → List ℕ) → (bodies : List ℕ) → (takes_and_gives_int : Bool)
+    → (name : ℕ) → ℕ
+number_of_function spelling bodies takes_and_gives_int name =
+    number_or (bodiless_number (length bodies) (spelling name) takes_and_gives_int name) (place_from 0 name bodies)
 
 -- the function with a body that is spelled so
 abbrev pub body_spelled : (spelling : ℕ → List ℕ) → List ℕ → ℕ → (bodies : List ℕ) → Option ℕ
@@ -88,10 +88,10 @@ abbrev pub first_line : List ℕ → Option ℕ
 first_line [] = None
 first_line (l ∷ lines) = least_with l (first_line lines)
 
--- the line of a function that is used, has no body and is no operation, where so many have a body
-abbrev pub undefined_function : (bodies : ℕ) → State → Declared → Option ℕ
-undefined_function bodies s (declared.Function f) = if is_operation bodies s f.number then None else Some f.line
-undefined_function bodies s _ = None
+-- the line of a function that is used and has no body, where so many have one. A call of an operation doesn't use it
+abbrev pub undefined_function : (bodies : ℕ) → Declared → Option ℕ
+undefined_function bodies (declared.Function f) = if nat_lt f.number bodies then None else Some f.line
+undefined_function bodies _ = None
 
 abbrev pub is_number : ℕ → ObjectNumber → Bool
 is_number number (Static n) = n == number
@@ -114,10 +114,6 @@ definition_of number (d ∷ older) = option_or (defines number d.what) (definiti
 abbrev pub line_if : Bool → ℕ → Option ℕ
 line_if true line = Some line
 line_if false line = None
-
-abbrev pub static_of_number : ObjectNumber → Option ℕ
-static_of_number (Static n) = Some n
-static_of_number (Local n) = None
 
 abbrev pub undefined_static : List Naming → ℕ → ObjectNumber → Option ℕ
 undefined_static linked line (Local n) = None
@@ -157,7 +153,7 @@ linked_in s = innermost s.above.names.linked
 -- in this order
 abbrev pub closing : State → Whole → List (Option Broken)
 closing s w =
-    at 34 (first_line (filter_map (undefined_function (length w.functions) s) s.used)) ∷
+    at 34 (first_line (filter_map (undefined_function (length w.functions)) s.used)) ∷
     at 35 (first_line (filter_map (undefined_object (linked_in s)) s.used)) ∷
     at 39 (line_if (is_none w.main) 1) ∷
     at 37 (line_if (nat_lt 4000 (length w.functions)) 1) ∷
@@ -180,21 +176,11 @@ pub record Tokens : Type 0 where
   pub is_library : ℕ → Bool
   pub spelling : ℕ → List ℕ
 
--- what only the end of a file tells, and is taken as known: of each function the locals whose address is taken, the
--- types of functions in the order of their numbers, and the object that is the output's lock
+-- what only the end of a file tells, and is taken as known: of each function the locals whose address is taken, and the
+-- types of functions in the order of their numbers
 pub record Ahead : Type 0 where
   pub taken : ℕ → List ℕ
   pub kinds : List ℕ
-  pub lock : ℕ
-
-abbrev pub printer_of : (letters : List ℕ → ℕ) → (lock : ℕ) → Printer
-printer_of number lock =
-    record {
-      lock = lock;
-      text = number (codes "__filc_put");
-      unsigned = number (codes "__filc_put_unsigned");
-      signed = number (codes "__filc_put_signed");
-    }
 
 abbrev pub char_array : Table → Option ElementCount → Table × ℕ
 char_array table None = (table, 0)
@@ -204,8 +190,8 @@ char_array table (Some count) =
     (made.0, made.1.number)
 
 -- which locals have a home is known in each function, and type names are read as deep as they nest
-abbrev pub around_of : Tokens → Ahead → (bodies : List ℕ) → Around
-around_of t ahead bodies =
+abbrev pub around_of : Tokens → Ahead → (bodies : List ℕ) → Option Printer → Around
+around_of t ahead bodies printer =
     record {
       number = t.number;
       character = t.character;
@@ -214,16 +200,16 @@ around_of t ahead bodies =
       has_home = (λ local. false);
       kind_of = (λ ty. number_or (length ahead.kinds) (place_from 0 ty ahead.kinds));
       intrinsic = operation_at (length bodies);
-      printer = printer_of (λ letters. number_or 0 (body_spelled t.spelling letters 0 bodies)) ahead.lock;
+      printer = printer;
       char_array = (λ table n. char_array table (count_of n));
       qualified_array = qualified;
-      named_type = (λ s ty. Fine s (part_of 0 0));
+      named_type = no_type_named;
     }
 
-abbrev pub here_of : Tokens → Ahead → (bodies : List ℕ) → Here
-here_of t ahead bodies =
+abbrev pub here_of : Tokens → Ahead → (bodies : List ℕ) → Option Printer → Here
+here_of t ahead bodies printer =
     with_named_types (record {
-      around = around_of t ahead bodies;
+      around = around_of t ahead bodies printer;
       function_number = number_of_function t.spelling bodies;
       is_library = t.is_library;
     })
@@ -261,19 +247,14 @@ closed s w = outcome_of s w (first_broken (closing s w))
 abbrev pub file_checked : Tokens → Ahead → File → Checked Whole
 file_checked t ahead file =
     let bodies = bodies_of file in
-    let here = here_of t ahead bodies in
-    next (in_order (external_checked here ahead.taken) (start_state here.around (length bodies)) file.items)
+    next (in_order (λ s x. external_checked (here_of t ahead bodies (printer_in (length bodies) s)) ahead.taken s x)
+    (start_state (around_of t ahead bodies None) (length bodies)) file.items)
     (λ s functions. closed s (whole_of t bodies s functions))
-
-abbrev pub static_in : Option Declared → Option ℕ
-static_in (Some (declared.Object o)) = static_of_number o.number
-static_in _ = None
 
 -- what was taken as known is what came out
 pub record IsAhead (ahead : Ahead) (s : State) (functions : List Made) : Type 0 where
   pub taken : (n : ℕ) (m : Made) → slice_get functions n ≡ Some m → ahead.taken n ≡ m.taken
   pub kinds : AreKinds ahead.kinds (thread_type s.table) (functions_in functions)
-  pub lock : (n : ℕ) → static_in (declared_in (codes "__filc_out_lock") (linked_in s)) ≡ Some n → ahead.lock ≡ n
 
 -- ---- the answer: a program, or the first broken rule
 

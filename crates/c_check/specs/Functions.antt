@@ -4,7 +4,6 @@
 -- declarator before a body   2 4 5 6 7 33
 use Rattle.std.specs.Prelude.{if◌then◌else◌, ℕ, suc, ◌+◌, ◌==◌, ◌&&◌, ◌||◌, nat_lt, Bool, true, false, not, List, [], ◌∷◌, ◌++◌, reverse, length, Option, Some, None}
 use Rattle.std.specs.List.{list_any}
-use Rattle.c_parts.specs.declared.span.Span.{Span}
 use Rattle.c_syntax.specs.declared.expr.Declarator.{Declarator}
 use Rattle.c_syntax.specs.declared.file.Block.{Block}
 use Rattle.c_syntax.specs.declared.file.Function.{Function}
@@ -22,12 +21,12 @@ use Rattle.c_specifiers.specs.declared.list.Standing.TheVariants as standing
 use Rattle.c_check_expr.specs.Outcomes.{State, Checked, Fine, Rule, next, ◌breaks◌}
 use Rattle.c_check_expr.specs.TypedExpressions.{type_at, always_has_home, access_of, size_of, or_zero}
 use Rattle.c_check.specs.Constructs.{Here, in_order}
-use Rattle.c_check.specs.Naming.{with_names, declares, is_name_taken, leaves}
+use Rattle.c_check.specs.Naming.{with_names, declares, leaves}
 use Rattle.c_check.specs.Declarators.{Listed, Prototype, is_function_declared, declarator_type, line_of, name_of}
 use Rattle.c_check.specs.Specifiers.{OneDeclarator, formed, specifiers_said}
-use Rattle.c_check.specs.Declaring.{what_declared, declared_rules}
+use Rattle.c_check.specs.Declaring.{what_declared, is_name_again, declared_rules}
 use Rattle.c_check.specs.Statements.{Inside, item_checked, block_of, with_locals}
-use Rattle.c_check.specs.Values.{body_temporaries}
+use Rattle.c_check.specs.Values.{function_temporaries}
 use Rattle.std.specs.Prelude.{is_some, Result, Ok, Err}
 use Rattle.c_types.specs.declared.rule.TypeRule.{TypeRule}
 use Rattle.c_tree.specs.declared.stmt.LocalKind.{LocalKind}
@@ -91,24 +90,24 @@ at_body here prototype s =
     }
 
 -- a function's values: its locals, its switches, the greatest need of its expressions, and 8
-abbrev pub values_of : State → Block → ℕ
-values_of s body = s.above.next_local + body_temporaries body + 8
+abbrev pub values_of : State → Function → ℕ
+values_of s f = s.above.next_local + function_temporaries f + 8
 
 -- a function, with the locals whose address is taken in it
 pub record Made : Type 0 where
   pub function : FunctionDef
   pub taken : List ℕ
 
-abbrev pub function_of : Here → Span → Part → Option Prototype → Block → State → Stmt → Checked Made
-function_of here span p prototype body s tree =
+abbrev pub function_of : Here → Function → Part → Option Prototype → State → Stmt → Checked Made
+function_of here f p prototype s tree =
     Fine s (record {
       function = record {
-        line = span.line;
-        library = here.is_library span.first;
+        line = f.span.line;
+        library = here.is_library f.span.first;
         kind = here.around.kind_of p.number;
         parameters = length (listed_in prototype);
         locals = s.above.next_local;
-        values = values_of s body;
+        values = values_of s f;
         body = tree;
       };
       taken = s.taken;
@@ -137,7 +136,7 @@ abbrev pub in_function : (ℕ → List ℕ) → Here → ℕ → Here
 in_function taken here name =
     record here {
       around =
-          record here.around { has_home = (λ l. list_any (λ m. m == l) (taken (here.function_number name))) };
+          record here.around { has_home = (λ l. list_any (λ m. m == l) (taken (here.function_number false name))) };
     }
 
 abbrev pub function_checked : Here → (ℕ → List ℕ) → State → Function → Checked Made
@@ -148,8 +147,8 @@ function_checked here taken s f =
     next (specifiers_said here standing.Definition OneDeclarator s f.specifiers) (λ s said.
     next (formed here s f.declarator) (λ s d.
     let what = what_declared here standing.Definition line said.storage true name in
-    next (declarator_type line (is_name_taken here.around s name) s said.ty d.derivations
-    (function_rules here f.declarator name what)) (λ s p.
+    let again = is_name_again here standing.Definition said line true name s d.derivations in
+    next (declarator_type line again s said.ty d.derivations (function_rules here f.declarator name what)) (λ s p.
     let begin = at_body inner d.prototype (declares here.around s name (what s p)) in
     next (leaves here.around (next (body_checked inner (inside_function s p) begin f.body) (λ s tree.
-    function_of inner f.span p d.prototype f.body s tree))) (λ s made. Fine (with_locals [] s) made))))
+    function_of inner f p d.prototype s tree))) (λ s made. Fine (with_locals [] s) made))))

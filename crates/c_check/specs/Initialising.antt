@@ -10,7 +10,7 @@
 -- expression                         11 18
 -- text for an array of characters    5 11
 -- list in braces                     11, at the list's end
-use Rattle.std.specs.Prelude.{ℕ, zero, suc, ◌+◌, ◌&&◌, ◌||◌, nat_lt, Bool, true, false, not, is_none, List, [], ◌∷◌, ◌++◌, map, length, if◌then◌else◌, Option, Some, None}
+use Rattle.std.specs.Prelude.{is_some, ℕ, zero, suc, ◌+◌, ◌&&◌, ◌||◌, nat_lt, Bool, true, false, not, is_none, List, [], ◌∷◌, ◌++◌, map, length, if◌then◌else◌, Option, Some, None}
 use Rattle.filc_num.specs.declared.c_int_type.CIntType.{CIntType}
 use Rattle.filc_num.specs.declared.c_int_type.CIntType.TheVariants as kind
 use Rattle.filc_num.specs.declared.statics.StaticHalf.TheVariants as half
@@ -182,7 +182,7 @@ is_one_text (more_of-Initialiser (Expression e) end_of-Initialiser) = is_text e.
 is_one_text _ = false
 
 abbrev pub is_text_list : {m : _} → State → CType → Row_of-Initialiser m → Bool
-is_text_list s ty items = Rattle.std.specs.Prelude.is_some (characters_of s ty) && is_one_text items
+is_text_list s ty items = is_some (characters_of s ty) && is_one_text items
 
 abbrev pub items_in : {m : _} → Row_of-Initialiser m → ℕ
 items_in end_of-Initialiser = 0
@@ -216,16 +216,17 @@ abbrev mutual
       next (items_filled around t s parts rest) (λ s more. Fine s (then_given g more)))
   items_filled around t s [] (more_of-Initialiser item rest) = all_looked_at around s (more_of-Initialiser item rest)
 
--- how many elements an array has whose size only its initialiser says (6.7.9p22), where they are characters or aren't.
--- An expression that is no text says none, and is refused itself: any count does
-abbrev pub text_elements : Around → Expr → ℕ
-text_elements around e = if is_text e.kind then suc (length (around.text e.span.first e.span.last)) else 1
+-- how many elements an array has whose size only its initialiser says (6.7.9p22), where they are characters or aren't. An
+-- expression that is no text says none
+abbrev pub characters_in : Around → Expr → ℕ
+characters_in around e = suc (length (around.text e.span.first e.span.last))
 
 abbrev pub listed_elements : {m : _} → Around → Bool → Row_of-Initialiser m → ℕ
 listed_elements around true (more_of-Initialiser (Expression e) end_of-Initialiser) =
-    if is_text e.kind then text_elements around e else 1
+    if is_text e.kind then characters_in around e else 1
 listed_elements around _ items = items_in items
 
-abbrev pub elements_in : Around → (are_characters : Bool) → Initialiser → ℕ
-elements_in around are_characters (Expression e) = if are_characters then text_elements around e else 1
-elements_in around are_characters (List' span z items) = listed_elements around are_characters items
+abbrev pub elements_in : Around → (are_characters : Bool) → Initialiser → Option ℕ
+elements_in around are_characters (Expression e) =
+    if are_characters && is_text e.kind then Some (characters_in around e) else None
+elements_in around are_characters (List' span z items) = Some (listed_elements around are_characters items)

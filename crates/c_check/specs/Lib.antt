@@ -12,5 +12,6 @@ pub mod Functions
 pub mod Statics
 pub mod Operations
 pub mod Kinds
+pub mod Printing
 pub mod Files
 pub mod Laws

@@ -1,10 +1,10 @@
 -- Names in a state: what a declaration makes its name stand for, or that it is declared again (C11 6.2.1, 6.7p3): rule
 -- 2.
-use Rattle.std.specs.Prelude.{ℕ, Bool, true, false, not, List, Option, Some, None, is_none}
+use Rattle.std.specs.Prelude.{ℕ, Bool, List, if◌then◌else◌, Option, Some, None, is_none}
 use Rattle.c_tree.specs.declared.declared.Declared.{Declared}
 use Rattle.c_tree.specs.declared.declared.Declared.TheVariants as declared
 use Rattle.c_types.specs.declared.entry.Entry.{Entry}
-use Rattle.c_scope.specs.Again.{is_linked}
+use Rattle.c_scope.specs.Again.{has_linkage}
 use Rattle.c_scope.specs.Blocks.{Naming, visible, declared_in, innermost}
 use Rattle.c_scope.specs.Scopes.{Names, with_block, without_block, with_name, space_of, declaration_in}
 use Rattle.c_check_expr.specs.Outcomes.{State, Checked, Fine, Breaks, Broke}
@@ -52,17 +52,26 @@ declares around s name what = with_declared around s name (declaration around s 
 
 -- ---- what a name has already
 
--- what stands here without linkage and is no typedef may not be declared again, whatever type comes
-abbrev pub stands_alone : Option Declared → Bool
-stands_alone (Some (declared.Object o)) = not (is_linked o.linkage)
-stands_alone (Some (declared.Constant v)) = true
-stands_alone _ = false
-
-abbrev pub is_name_taken : Around → State → ℕ → Bool
-is_name_taken around s name = stands_alone (declared_in (around.spelling name) (innermost s.above.names.ordinary))
-
 abbrev pub linked : Around → State → ℕ → Option Declared
 linked around s name = visible (around.spelling name) s.above.names.linked
+
+-- what a declaration follows: with linkage, what the name stands for with linkage, and else what its block has
+abbrev pub earlier : Around → State → ℕ → Declared → Option Declared
+earlier around s name what =
+    if has_linkage what
+    then linked around s name
+    else declared_in (around.spelling name) (innermost s.above.names.ordinary)
+
+-- with the type that what it follows has, where that is of its kind
+abbrev pub typed_as : Option Declared → Declared → Declared
+typed_as (Some (declared.Object a)) (declared.Object b) = declared.Object (record b { ty = a.ty })
+typed_as (Some (declared.Function a)) (declared.Function b) = declared.Function (record b { ty = a.ty })
+typed_as (Some (declared.Typedef a)) (declared.Typedef b) = declared.Typedef a
+typed_as other what = what
+
+-- declared again whatever type it has: not even the earlier one's would do
+abbrev pub is_again_by_any_type : Around → State → ℕ → Declared → Bool
+is_again_by_any_type around s name what = is_again around s name (typed_as (earlier around s name what) what)
 
 abbrev pub tag_visible : Around → State → ℕ → Option Declared
 tag_visible around s name = visible (around.spelling name) s.above.names.tags

@@ -1,7 +1,8 @@
 -- The functions that are one operation each. The library's headers do their work by them, and no file declares them:
 -- they are declared before the file. Their numbers stand behind those of the functions with bodies, and behind theirs
--- stands that of a `putchar` without a body, which puts out a byte.
-use Rattle.std.specs.Prelude.{ℕ, suc, ◌+◌, ◌-◌, ◌==◌, ◌&&◌, nat_lt, Bool, true, false, List, [], ◌∷◌, ◌++◌, map, length, codes, slice_get, if◌then◌else◌, Option, Some, None}
+-- stands that of a `putchar` from int to int without a body, which puts out a byte. What such a number is said of is
+-- called, and nothing else: it is no function of the program, so it has no address.
+use Rattle.std.specs.Prelude.{ℕ, suc, ◌+◌, ◌-◌, ◌&&◌, nat_lt, Bool, true, false, List, [], ◌∷◌, ◌++◌, map, length, codes, slice_get, if◌then◌else◌, Option, Some, None}
 use Rattle.std.specs.Str.{bytes_eq}
 use Rattle.filc_num.specs.declared.c_int_type.CIntType.{CIntType}
 use Rattle.filc_num.specs.declared.c_int_type.CIntType.TheVariants as kind
@@ -13,10 +14,8 @@ use Rattle.c_types.specs.declared.entry.Entry.{Entry}
 use Rattle.c_types.specs.declared.entry.Entry.TheVariants.{NoParameters, Parameters}
 use Rattle.c_tree.specs.declared.operation.Operation.{Operation}
 use Rattle.c_tree.specs.declared.operation.Operation.TheVariants as op
-use Rattle.c_tree.specs.declared.declared.Declared.{Declared}
 use Rattle.c_tree.specs.declared.declared.Declared.TheVariants as declared
 use Rattle.c_tree.specs.declared.declared.Linkage.TheVariants.{External}
-use Rattle.c_scope.specs.Blocks.{declared_in, innermost}
 use Rattle.c_scope.specs.Scopes.{Names, no_names, with_name, space_of}
 use Rattle.c_check_expr.specs.Outcomes.{State}
 use Rattle.c_check_expr.specs.TypedExpressions.{part_of, type_at}
@@ -96,10 +95,11 @@ operation_at bodies number =
     then None
     else slice_get (map (λ (i : Intrinsic). i.operation) intrinsics ++ op.Out ∷ []) (number - bodies)
 
--- the number of a function without a body, by its name's: that of `putchar` is the first
-abbrev pub bodiless_number : (bodies : ℕ) → (spelling : List ℕ) → (name : ℕ) → ℕ
-bodiless_number bodies spelling name =
-    bodies + length intrinsics + (if bytes_eq spelling (codes "putchar") then 0 else suc name)
+-- the number of a function without a body, by its name's: that of `putchar` from int to int is the first
+abbrev pub bodiless_number : (bodies : ℕ) → (spelling : List ℕ) → (takes_and_gives_int : Bool) → (name : ℕ) → ℕ
+bodiless_number bodies spelling takes_and_gives_int name =
+    bodies + length intrinsics +
+    (if takes_and_gives_int && bytes_eq spelling (codes "putchar") then 0 else suc name)
 
 -- ---- what a file begins with
 
@@ -129,7 +129,7 @@ start_of bodies = with_intrinsics bodies intrinsics ([], no_names)
 abbrev pub thread_type : Table → ℕ
 thread_type table = (written_type table thread_function).1.number
 
--- ---- a `putchar` without a body, where the file declares it from int to int
+-- ---- the type that `putchar` has
 
 abbrev pub is_int : CType → Bool
 is_int (Integer kind.Int) = true
@@ -146,16 +146,3 @@ takes_int s _ = false
 abbrev pub is_int_to_int : State → CType → Bool
 is_int_to_int s (Function f) = is_int (type_at s f.result) && takes_int s (slice_get s.table f.parameters)
 is_int_to_int s _ = false
-
-abbrev pub puts_byte : State → Option Declared → Bool
-puts_byte s (Some (declared.Function f)) = is_int_to_int s (type_at s f.ty)
-puts_byte s _ = false
-
-abbrev pub has_putchar : State → Bool
-has_putchar s = puts_byte s (declared_in (codes "putchar") (innermost s.above.names.ordinary))
-
--- the number is that of a function that is one operation
-abbrev pub is_operation : (bodies : ℕ) → State → (number : ℕ) → Bool
-is_operation bodies s number =
-    let behind = bodies + length intrinsics in
-    if nat_lt number behind then true else (number == behind && has_putchar s)

@@ -13,7 +13,7 @@
 -- type name's declarator                 4 5 6 7
 -- array's size                           10
 -- assertion's condition                  10 32
-use Rattle.std.specs.Prelude.{ℕ, zero, suc, ◌&&◌, ◌||◌, Bool, true, false, not, List, [], ◌∷◌, ◌++◌, map, reverse, length, Option, Some, None, Result, Ok, Err}
+use Rattle.std.specs.Prelude.{ℕ, zero, suc, ◌+◌, nat_lt, ◌&&◌, ◌||◌, Bool, true, false, not, List, [], ◌∷◌, ◌++◌, map, reverse, length, Option, Some, None, Result, Ok, Err}
 use Rattle.std.specs.List.{list_any}
 use Rattle.std.specs.Option.{option_or}
 use Rattle.c_syntax.specs.declared.words.Storage.{Storage}
@@ -45,11 +45,11 @@ use Rattle.c_type_rules.specs.Atomic.{atomic_type}
 use Rattle.c_declarations.specs.Specified.{lowest, rule_of_specifiers, storage_in_list, named_in_list, set_in_list}
 use Rattle.c_declarations.specs.declared.specifier_list.Named.{Named}
 use Rattle.c_declarations.specs.declared.specifier_list.Named.TheVariants as named
-use Rattle.c_check_expr.specs.Outcomes.{State, Checked, Fine, next}
+use Rattle.c_check_expr.specs.Outcomes.{State, Checked, Fine, next, by_rules, ◌breaks◌}
 use Rattle.c_check_expr.specs.TypedExpressions.{type_at, part_of}
 use Rattle.c_check_expr.specs.Expressions.{Around}
 use Rattle.c_check_expr.specs.Contexts.{constant_in, enumeration_constant, assertion_constant, without_fault}
-use Rattle.c_check.specs.Constructs.{when, by_rule}
+use Rattle.c_scope.specs.Blocks.{innermost}
 use Rattle.c_check.specs.Types.{Table, with_type, qualified}
 use Rattle.c_check.specs.Naming.{in_scope, out_of_scope, with_types}
 use Rattle.c_check.specs.Constructs.{Here, when, by_rule}
@@ -92,7 +92,8 @@ said_by place list s p =
       },
     )
 
--- in a block a function has no storage word but `extern` (6.7.1p7), and a `for` declares none (6.8.5p3)
+-- in a block a function has no storage word but `extern` (6.7.1p7), and a `for` declares none, with a storage word or
+-- without (6.8.5p3)
 abbrev pub forbids_functions : Standing → Option Storage → Bool
 forbids_functions standing.Block (Some storage.Extern) = false
 forbids_functions standing.Block (Some storage.Typedef) = false
@@ -104,7 +105,7 @@ abbrev pub declarators_in : Follows → List Declarator
 declarators_in (Declarators ds) = ds
 declarators_in OneDeclarator = []
 
--- a storage word that its place forbids, where the place takes in what is declared
+-- what is declared is a function, and its place forbids it with this storage word
 abbrev pub is_misplaced : Standing → Follows → (names_function : Bool) → Option Storage → Bool
 is_misplaced place follows names_function word =
     forbids_functions place word && list_any (is_function_declared names_function) (declarators_in follows)
@@ -116,6 +117,15 @@ names_function (Some r) ty = false
 abbrev pub declares_nothing : Follows → Parts → Bool
 declares_nothing (Declarators []) p = not p.declares
 declares_nothing follows p = false
+
+-- how many names this scope has, a tag's as often as it is named in a new way
+abbrev pub names_here : State → ℕ
+names_here s = length (innermost s.above.names.ordinary) + length (innermost s.above.names.tags)
+
+-- a tag or a constant that is declared in a size or a constant counts as well
+abbrev pub with_declared : (before after : State) → Parts → Parts
+with_declared before after p =
+    record p { declares = p.declares || nat_lt (names_here before) (names_here after) }
 
 -- the rules of a list that names this type
 abbrev pub list_rule : Standing → Follows → List Specifier → State → Parts → Said → Option CRule
@@ -159,8 +169,8 @@ abbrev mutual
   pub specifiers_said : Here → Standing → Follows → State → Specifiers → Checked Said
   specifiers_said here place follows s (Specifiers' span z list) =
       let specifiers = (out-Specifiers (Specifiers' span z list)).list in
-      next (specifiers_in here (is_tag_alone follows specifiers) s no_parts list) (λ s p.
-      specified span.line place follows specifiers s p)
+      next (specifiers_in here (is_tag_alone follows specifiers) s no_parts list) (λ after p.
+      specified span.line place follows specifiers after (with_declared s after p))
 
   pub specifiers_in : {m : _} → Here → Bool → State → Parts → Row_of-Specifier m → Checked Parts
   specifiers_in here is_alone s p end_of-Specifier = Fine s p
@@ -267,12 +277,16 @@ abbrev mutual
 abbrev pub type_named : Here → State → TypeName → Checked Part
 type_named here s ty = next (type_said here s ty) (λ s said. Fine s said.ty)
 
--- a type name has expressions in which one nests less; at most 200 nest
+-- where more nest than the grammar lets, the innermost names no type
+abbrev pub no_type_named : State → TypeName → Checked Part
+no_type_named s (TypeName' span specifiers d) = by_rules span.line (3 breaks true ∷ []) s (part_of 0 0)
+
+-- a type name has expressions in which one nests less
 abbrev pub around_at : ℕ → Here → Around
-around_at zero here = here.around
+around_at zero here = record here.around { named_type = no_type_named }
 around_at (suc n) here =
     record here.around { named_type = (λ s ty. type_named (record here { around = around_at n here }) s ty) }
 
--- with the types that type names name
+-- with the types that type names name: of a file of the grammar at most 200 nest
 abbrev pub with_named_types : Here → Here
 with_named_types here = record here { around = around_at 201 here }

@@ -1,15 +1,16 @@
--- How many temporaries a function's expressions need, by its text: the greatest need of all expressions in its body,
--- those in initialisers, array sizes and constants too (rule 36).
+-- How many temporaries a function's expressions need, by its text: the greatest need of all expressions in its
+-- specifiers, its declarator and its body, those in initialisers, array sizes and constants too (rule 36).
 use Rattle.std.specs.Prelude.{ℕ, max, List, [], ◌∷◌, Option, Some, None}
 use Rattle.c_syntax.specs.declared.expr.Expr.{Expr}
 use Rattle.c_syntax.specs.declared.file.Initialiser.{Initialiser, Expression as Value, List', Row_of-Initialiser, end_of-Initialiser, more_of-Initialiser}
 use Rattle.c_syntax.specs.declared.file.InitDeclarator.{InitDeclarator}
 use Rattle.c_syntax.specs.declared.file.Declaration.{Declaration}
-use Rattle.c_syntax.specs.declared.file.Block.{Block, Row_of-BlockItem, end_of-BlockItem, more_of-BlockItem}
+use Rattle.c_syntax.specs.declared.file.Block.{Row_of-BlockItem, end_of-BlockItem, more_of-BlockItem}
 use Rattle.c_syntax.specs.declared.file.BlockItem.{BlockItem, Declaration as ItemDeclaration, Assertion as ItemAssertion, Statement' as ItemStatement'}
 use Rattle.c_syntax.specs.declared.file.StatementKind.{StatementKind, Block' as InBlock', Empty, Expression, If', While', Do', For', Switch', Break, Continue, Return, None' as NoElse, Some' as Else', end_of-Statement, more_of-Statement, Row_of-SwitchItem, end_of-SwitchItem, more_of-SwitchItem}
 use Rattle.c_syntax.specs.declared.file.SwitchItem.{SwitchItem, Case, Default, Declaration as SwitchDeclaration, Assertion as SwitchAssertion, Statement' as SwitchStatement'}
 use Rattle.c_syntax.specs.declared.file.ForStart.{ForStart}
+use Rattle.c_syntax.specs.declared.file.Function.{Function}
 use Rattle.c_syntax.specs.declared.file.ForStart.TheVariants.{Declaration as StartDeclaration, Expression as StartExpression}
 use Rattle.c_check_expr.specs.Temporaries.{temporaries_of, specifiers_temporaries, declarator_temporaries}
 
@@ -87,5 +88,7 @@ abbrev mutual
   switch_item_temporaries (SwitchAssertion a) = temporaries_of a.condition
   switch_item_temporaries (SwitchStatement' span k) = kind_temporaries k
 
-abbrev pub body_temporaries : Block → ℕ
-body_temporaries body = greatest item_temporaries body.items
+abbrev pub function_temporaries : Function → ℕ
+function_temporaries f =
+    max (specifiers_temporaries f.specifiers) (max (declarator_temporaries f.declarator)
+    (greatest item_temporaries f.body.items))

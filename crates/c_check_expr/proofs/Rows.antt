@@ -175,7 +175,7 @@ module _ (object : DeclaredObject) (function : DeclaredFunction) (extent : Exten
         has_home = (λ n. n == 1);
         kind_of = (λ n. n);
         intrinsic = (λ n. None);
-        printer = record { lock = 9; text = 1; unsigned = 2; signed = 3 };
+        printer = Some (record { lock = 9; text = 1; unsigned = 2; signed = 3 });
         char_array = (λ t n. (t, 14));
         qualified_array = (λ t part quals. if part.number == 9 && quals == 1 then (t, part_of 18 0) else (t, part));
         named_type = (λ s t. Fine s (part_of type_number 0));

@@ -1,5 +1,5 @@
 -- What declarations and statements keep beside what expressions look at: names by blocks, and what a function and a file have so far.
-use Rattle.std.specs.Prelude.{ℕ, List, Bool}
+use Rattle.std.specs.Prelude.{ℕ, List}
 use Rattle.filc_num.specs.declared.statics.StaticHalf.{StaticHalf}
 use Rattle.c_tree.specs.declared.stmt.LocalDef.{LocalDef}
 use Rattle.c_scope.specs.Scopes.{Names}

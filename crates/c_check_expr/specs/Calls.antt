@@ -1,5 +1,5 @@
 -- Calls (C11 6.5.2.2), and the calls that stand in place: `printf` and the atomic ones.
-use Rattle.std.specs.Prelude.{ℕ, suc, ◌==◌, ◌&&◌, ◌||◌, nat_le, nat_lt, Bool, true, false, not, bit_or, List, [], ◌∷◌, map, length, codes, slice_get, if◌then◌else◌, Option, Some, None}
+use Rattle.std.specs.Prelude.{ℕ, suc, ◌==◌, ◌&&◌, ◌||◌, nat_le, nat_lt, Bool, true, false, not, bit_or, List, [], ◌∷◌, ◌++◌, map, length, codes, slice_get, if◌then◌else◌, Option, Some, None}
 use Rattle.std.specs.Str.{bytes_eq}
 use Rattle.filc_num.specs.declared.integer.IntType.{IntType}
 use Rattle.filc_num.specs.declared.integer.BinOp.{BinOp}
@@ -13,6 +13,7 @@ use Rattle.c_types.specs.declared.ctype.Part.{Part}
 use Rattle.c_types.specs.declared.ctype.Signature.{Signature}
 use Rattle.c_types.specs.declared.entry.Entry.{Entry}
 use Rattle.c_types.specs.declared.entry.Entry.TheVariants.{OfType, NoParameters, Parameters}
+use Rattle.c_tree.specs.declared.declared.Declared.{Declared}
 use Rattle.c_tree.specs.declared.expr.Expr.{Expr}
 use Rattle.c_tree.specs.declared.expr.Expr.TheVariants as tree
 use Rattle.c_tree.specs.declared.operation.Operation.{Operation}
@@ -133,6 +134,19 @@ abbrev pub direct_call : Option Operation → ℕ → Operation
 direct_call None number = op.Call number
 direct_call (Some operation) number = operation
 
+-- a function that is an operation isn't used by its call: its name is the newest of what is used
+abbrev pub without_newest : List Declared → List Declared
+without_newest [] = []
+without_newest (d ∷ older) = older
+
+abbrev pub without_operation : Option Operation → State → State
+without_operation None s = s
+without_operation (Some operation) s = record s { used = without_newest s.used }
+
+abbrev pub at_call : (intrinsic : ℕ → Option Operation) → Place → State → State
+at_call intrinsic (Designator (Some number) ty) s = without_operation (intrinsic number) s
+at_call intrinsic place s = s
+
 -- a function that is named is called directly, any other through its pointer
 abbrev pub call_made : (intrinsic : ℕ → Option Operation) (kind_of : ℕ → ℕ) → ℕ → Place → Typed → List Expr → Made
 call_made intrinsic kind_of line (Designator (Some number) ty) f operands = made_of line (tree.Apply line (direct_call (intrinsic number) number) operands)
@@ -146,6 +160,14 @@ call intrinsic kind_of line place f s a =
 
 -- ---- names that stand for no function, but are called
 
+-- what stands in place of `printf`: the static object that is the output's lock, and the library's functions that put out a
+-- text, an unsigned number in a radix, and a signed number
+pub record Printer : Type 0 where
+  pub lock : ℕ
+  pub text : ℕ
+  pub unsigned : ℕ
+  pub signed : ℕ
+
 pub data AtomicCall : Type 0 where
   AtomicLoad : AtomicCall
   AtomicStore : AtomicCall
@@ -154,7 +176,7 @@ pub data AtomicCall : Type 0 where
   AtomicFetch : BinOp → AtomicCall
 
 pub data Special : Type 0 where
-  Printing : Special
+  Printing : Printer → Special
   Atomic : AtomicCall → Special
 
 pub record SpecialName : Type 0 where
@@ -164,9 +186,13 @@ pub record SpecialName : Type 0 where
 abbrev pub special : List ℕ → Special → SpecialName
 special name what = record { name = name; what = what }
 
-abbrev pub special_names : List SpecialName
-special_names =
-    special (codes "__filc_printf") Printing ∷
+-- `printf` is there where what it stands for is
+abbrev pub printing_names : Option Printer → List SpecialName
+printing_names None = []
+printing_names (Some f) = special (codes "__filc_printf") (Printing f) ∷ []
+
+abbrev pub atomic_names : List SpecialName
+atomic_names =
     special (codes "__filc_atomic_load") (Atomic AtomicLoad) ∷
     special (codes "__filc_atomic_store") (Atomic AtomicStore) ∷
     special (codes "__filc_atomic_exchange") (Atomic AtomicExchange) ∷
@@ -177,6 +203,9 @@ special_names =
     special (codes "__filc_atomic_fetch_xor") (Atomic (AtomicFetch b.Xor)) ∷
     special (codes "__filc_atomic_fetch_and") (Atomic (AtomicFetch b.And)) ∷
     []
+
+abbrev pub special_names : Option Printer → List SpecialName
+special_names printer = printing_names printer ++ atomic_names
 
 abbrev pub special_among : List SpecialName → List ℕ → Option Special
 special_among [] name = None
@@ -266,14 +295,6 @@ atomic_call line what s a =
     let r = atomic_result s line what a.values in by_rules line (23 breaks not r.is_good ∷ []) s (value r.ty line r.made known.Nothing)
 
 -- ---- printf: rule 22
-
--- what stands in place of `printf`: the static object that is the output's lock, and the library's functions that put out a
--- text, an unsigned number in a radix, and a signed number
-pub record Printer : Type 0 where
-  pub lock : ℕ
-  pub text : ℕ
-  pub unsigned : ℕ
-  pub signed : ℕ
 
 -- where in a format: in its text, behind `%`, or behind `%l`
 pub data Mode : Type 0 where

@@ -62,7 +62,7 @@ use Rattle.c_check_expr.specs.TypedExpressions.{Typed, Place, Value, InLocal, In
 use Rattle.c_check_expr.specs.Reading.{read, read_found, target_found, is_register, behind}
 use Rattle.c_check_expr.specs.Converting.{is_cast, cast_to}
 use Rattle.c_check_expr.specs.Operators.{takes, Sum, sum, binary, negative, complement, plus, negation, known_test, test_tree, choice, assignment, compound, step, one_at, contents_of, room_align}
-use Rattle.c_check_expr.specs.Calls.{Wanted, Anything, Arguments, no_arguments, with_argument, argument, following, signature_of, wanted_by, call, Special, Printing, Atomic, Printer, special_among, special_names, print_call, bad_print, atomic_call}
+use Rattle.c_check_expr.specs.Calls.{Wanted, Anything, Arguments, no_arguments, with_argument, argument, following, signature_of, wanted_by, at_call, call, Special, Printing, Atomic, Printer, special_among, special_names, print_call, bad_print, atomic_call}
 
 -- ---- what is round an expression
 
@@ -83,7 +83,8 @@ pub record Around : Type 0 where
   pub kind_of : ℕ → ℕ
   -- the functions that are one operation each, by their numbers
   pub intrinsic : ℕ → Option Operation
-  pub printer : Printer
+  -- what `printf` stands for, where it is there
+  pub printer : Option Printer
   -- a table with the type of an array of so many char, and that type's number
   pub char_array : List Entry → ℕ → List Entry × ℕ
   -- a table with an array's type where its innermost elements have these qualifiers too, and that type. The definition of
@@ -355,14 +356,14 @@ name_in (Name n) = Some n
 name_in (Parens' p (more_of-Expr span k end_of-Expr)) = name_in k
 name_in _ = None
 
-abbrev pub special_if_unknown : Option Declared → List ℕ → Option Special
-special_if_unknown None name = special_among special_names name
-special_if_unknown (Some d) name = None
+abbrev pub special_if_unknown : Option Printer → Option Declared → List ℕ → Option Special
+special_if_unknown printer None name = special_among (special_names printer) name
+special_if_unknown printer (Some d) name = None
 
 -- a name that is declared nowhere, but may be called
 abbrev pub special_named : Around → State → Option ℕ → Option Special
 special_named around s None = None
-special_named around s (Some n) = special_if_unknown (s.visible n) (around.spelling n)
+special_named around s (Some n) = special_if_unknown around.printer (s.visible n) (around.spelling n)
 
 abbrev pub local_number : ObjectNumber → Option ℕ
 local_number (Static n) = None
@@ -384,15 +385,15 @@ is_text Text = true
 is_text _ = false
 
 -- a text that is a format is no object
-abbrev pub print_with : Around → ℕ → Span → State → (State → Checked Arguments) → Checked Typed
-print_with around line span s rest =
+abbrev pub print_with : Around → Printer → ℕ → Span → State → (State → Checked Arguments) → Checked Typed
+print_with around f line span s rest =
     let format = around.text span.first span.last in
-    next (by_rules span.line (5 breaks is_too_long format ∷ []) s format) (λ s _. next (rest s) (λ s a. print_call line around.printer format s a))
+    next (by_rules span.line (5 breaks is_too_long format ∷ []) s format) (λ s _. next (rest s) (λ s a. print_call line f format s a))
 
 -- the first operand of `printf`, as it is where it is no format, and the others
-abbrev pub typed_format : Around → ℕ → Span → ExprKind → Checked Typed → State → (State → Checked Arguments) → Checked Typed
-typed_format around line span k found s rest =
-    if is_text k then print_with around line span s rest else next (read_found found) (λ s x. next (rest s) (λ s a. bad_print line around.printer s a))
+abbrev pub typed_format : Around → Printer → ℕ → Span → ExprKind → Checked Typed → State → (State → Checked Arguments) → Checked Typed
+typed_format around f line span k found s rest =
+    if is_text k then print_with around f line span s rest else next (read_found found) (λ s x. next (rest s) (λ s a. bad_print line f s a))
 
 -- ---- expressions
 
@@ -443,7 +444,7 @@ abbrev mutual
   typed_operator around line found (Index' p (more_of-Expr s1 k1 end_of-Expr)) =
       next (read_found found) (λ s x. next (read_found (typed_kind around s1 s k1)) (λ s y. index line x s y))
   typed_operator around line found (Call' z arguments) =
-      next found (λ s t. next (read s t) (λ s f. next (typed_arguments around (wanted_by (signature_of s f)) s arguments) (λ s a.
+      next found (λ s t. next (read s t) (λ s f. next (typed_arguments around (wanted_by (signature_of s f)) (at_call around.intrinsic t.place s) arguments) (λ s a.
       call around.intrinsic around.kind_of line t.place f s a)))
   typed_operator around line found (Member n) = next found (λ s t. member around line n s t)
   typed_operator around line found (Arrow n) = next (read_found found) (λ s t. arrow around line n s t)
@@ -452,7 +453,7 @@ abbrev mutual
 
   -- a call of such a name; the format of `printf` is a text itself
   pub typed_special : Around → ℕ → State → Special → Checked Typed → PostfixKind → Checked Typed
-  typed_special around line s Printing found (Call' z arguments) = typed_print around line s arguments
+  typed_special around line s (Printing f) found (Call' z arguments) = typed_print around f line s arguments
   typed_special around line s (Atomic what) found (Call' z arguments) =
       next (typed_arguments around Anything s arguments) (λ s a. atomic_call line what s a)
   typed_special around line s special found (Index' p i) = inner found
@@ -461,9 +462,9 @@ abbrev mutual
   typed_special around line s special found Increment = inner found
   typed_special around line s special found Decrement = inner found
 
-  pub typed_print : {m : _} → Around → ℕ → State → Row_of-Expr m → Checked Typed
-  typed_print around line s end_of-Expr = bad_print line around.printer s (no_arguments Anything)
-  typed_print around line s (more_of-Expr span k rest) = typed_format around line span k (typed_kind around span s k) s (λ s. typed_arguments around Anything s rest)
+  pub typed_print : {m : _} → Around → Printer → ℕ → State → Row_of-Expr m → Checked Typed
+  typed_print around f line s end_of-Expr = bad_print line f s (no_arguments Anything)
+  typed_print around f line s (more_of-Expr span k rest) = typed_format around f line span k (typed_kind around span s k) s (λ s. typed_arguments around Anything s rest)
 
   -- arguments, each converted where it stands
   pub typed_arguments : {m : _} → Around → Wanted → State → Row_of-Expr m → Checked Arguments

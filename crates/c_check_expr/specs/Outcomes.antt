@@ -44,8 +44,8 @@ pub record State : Type 0 where
   pub next_static : ℕ
   pub literals : List Literal
   -- objects and functions that are used, as they were declared by then, and locals whose address is taken, the last one first. A
-  -- body or a definition may come later, so whether what is used has one is asked by its number; a function that is one operation
-  -- is used without a body
+  -- body or a definition may come later, so whether what is used has one is asked by its number; a call of a function
+  -- that is one operation doesn't use it
   pub used : List Declared
   pub taken : List ℕ
   -- what only declarations and statements look at
