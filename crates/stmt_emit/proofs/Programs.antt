@@ -1,5 +1,5 @@
 -- The code of a function and of a program, whole: well formed, and it plays the program.
-use Rattle.std.proofs.Common.{◌≡◌, ℕ, ◌+◌, ◌-◌, ◌<◌, ◌≤◌, List, [], ◌∷◌, ◌++◌, length, map, All, refl, sym, ap, ◌∙◌, subst, arith, append-nil}
+use Rattle.std.proofs.Common.{◌≡◌, ℕ, ◌+◌, ◌-◌, List, [], ◌∷◌, ◌++◌, length, map, All, sym, ap, ◌∙◌, subst, arith, append-nil}
 use Rattle.std.proofs.lemmas.List.{length-map}
 use Rattle.std.proofs.lemmas.List.Elements.{All-nil, All-cons, All-head, All-tail, All-map}
 use Rattle.filc_num.specs.StaticDefs.{PlainStatic, plain_static}
@@ -7,13 +7,11 @@ use Rattle.filc_num.specs.declared.statics.StaticDef.{StaticDef}
 use Rattle.c_tree.specs.declared.program.FunctionDef.{FunctionDef}
 use Rattle.c_tree.specs.Plain.{PlainProgram}
 use Rattle.c_tree.specs.Fits.{IsProgram}
-use Rattle.whole_code.specs.declared.op.Op.TheVariants.{Const, Return}
 use Rattle.whole_code.specs.declared.op.Instruction.{Instruction}
-use Rattle.whole_code.specs.Plain.{PlainFunction, PlainCode}
+use Rattle.whole_code.specs.Plain.{PlainCode}
 use Rattle.whole_code.specs.WellFormed.{Named, IsFunctionWellFormed, KeepsHalf, IsStaticWellFormed, named_in, IsWellFormed}
-use Rattle.expr_gen.specs.Code.{instructions}
 use Rattle.stmt_gen.specs.Code.{Exits, stmt_size, stmt_code}
-use Rattle.stmt_gen.specs.Programs.{body_exits, end_code, body_code, function_code, program_code}
+use Rattle.stmt_gen.specs.Programs.{body_exits, end_code, body_code, program_code}
 use Rattle.stmt_gen.specs.Correct.{PlaysOn}
 use Rattle.stmt_gen.proofs.Programs.{programs_play}
 use Rattle.code_fits.proofs.Programs.{programs_are_formed}

@@ -1,5 +1,5 @@
 -- What is put where there is room, part by part, is put there as a whole.
-use Rattle.std.proofs.Common.{◌≡◌, ℕ, ◌+◌, ◌-◌, ◌≤◌, List, [], ◌∷◌, ◌++◌, length, drop, reverse, Bool, refl, sym, ap, ◌∙◌, arith, length-append}
+use Rattle.std.proofs.Common.{◌≡◌, ℕ, ◌+◌, ◌-◌, ◌≤◌, List, [], ◌∷◌, ◌++◌, length, drop, reverse, Bool, refl, sym, ap, ◌∙◌, arith}
 use Rattle.std.specs.Prelude.{slice_index_or}
 use Rattle.std.proofs.lemmas.List.{reverse-reverse}
 use Rattle.c_tree.specs.declared.expr.Expr.{Expr}
@@ -10,9 +10,8 @@ use Rattle.whole_code.specs.declared.op.Op.TheVariants.{Jump, JumpZero}
 use Rattle.whole_code.specs.declared.op.Instruction.{Instruction}
 use Rattle.expr_gen.specs.Operations.{at_line}
 use Rattle.expr_gen.specs.Code.{branch_size, expr_size, expr_code}
-use Rattle.expr_gen.proofs.Sizes.{expr_length}
-use Rattle.stmt_gen.specs.Code.{Exits, locals_size, locals_code, cases_size, cases_code, switch_code, switch_exits, loop_code, loop_exits, stmt_size, stmt_code}
-use Rattle.stmt_gen.proofs.Sizes.{stmt_length, locals_length, cases_length}
+use Rattle.stmt_gen.specs.Code.{Exits, locals_size, locals_code, cases_size, cases_code, switch_exits, stmt_size, stmt_code}
+use Rattle.stmt_gen.proofs.Sizes.{stmt_length, cases_length}
 use Rattle.expr_emit.specs.Tail.{PlainTail, before, PutsBefore, Replaces}
 use Rattle.expr_emit.proofs.Tails.{next_before, start_after, long_two}
 use Rattle.expr_emit.proofs.Steps.{built_branch}

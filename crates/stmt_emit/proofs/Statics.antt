@@ -1,12 +1,11 @@
 -- Code plays the same whatever its static objects hold: what they hold is in memory, and code only names them.
-use Rattle.std.proofs.Common.{◌≡◌, ℕ, zero, suc, ◌+◌, ◌<◌, List, refl, sym, ap, ◌∙◌, subst}
-use Rattle.std.specs.Prelude.{map, slice_get, Option, Some, None}
+use Rattle.std.proofs.Common.{◌≡◌, ℕ, zero, suc, ◌+◌, List, refl, sym, ap, ◌∙◌, subst}
+use Rattle.std.specs.Prelude.{slice_get, Option, Some, None}
 use Rattle.filc_num.specs.declared.statics.StaticDef.{StaticDef}
 use Rattle.c_tree.specs.Plain.{PlainProgram}
-use Rattle.c_tree.specs.Fits.{IsProgram}
 use Rattle.ideal_machine.specs.declared.event.Answer.{Answer}
 use Rattle.ideal_machine.specs.Play.{log_of, run, fresh_log}
-use Rattle.ideal_machine.specs.Phrases.{Start, Phrase}
+use Rattle.ideal_machine.specs.Phrases.{Start}
 use Rattle.ideal_machine.specs.Reaches.{Reaches}
 use Rattle.tree_play.specs.TreePlay.{play}
 use Rattle.whole_code.specs.declared.op.Op.{Op}

@@ -10,7 +10,7 @@ use Rattle.expr_gen.specs.Operations.{at_line}
 use Rattle.expr_gen.specs.Code.{instructions}
 use Rattle.stmt_gen.specs.Code.{Exits, local_ops, locals_code, case_ops, cases_code, loop_code, loop_exits, stmt_size, stmt_code}
 use Rattle.stmt_gen.proofs.Sizes.{stmt_length}
-use Rattle.expr_emit.specs.Tail.{PlainTail, plain_tail, before, Replaces}
+use Rattle.expr_emit.specs.Tail.{PlainTail, before, Replaces}
 use Rattle.expr_emit.proofs.Tails.{same_tail, two_before, next_before, long_two}
 use Rattle.stmt_emit.specs.Lists.{statements_size, statements_code, starts_of}
 

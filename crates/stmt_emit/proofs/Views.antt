@@ -1,5 +1,5 @@
 -- Sizes and code at the constructors by which Rust sees a statement: rows as lists.
-use Rattle.std.proofs.Common.{◌≡◌, ℕ, zero, suc, ◌+◌, List, [], ◌∷◌, ◌++◌, length, Bool, refl, sym, ap, ◌∙◌, arith}
+use Rattle.std.proofs.Common.{◌≡◌, ℕ, zero, suc, ◌+◌, List, ◌++◌, Bool, refl, sym, ap, ◌∙◌, arith}
 use Rattle.std.specs.Prelude.{slice_index_or}
 use Rattle.c_tree.specs.declared.expr.Expr.{Expr}
 use Rattle.c_tree.specs.declared.stmt.LocalDef.{LocalDef}
@@ -9,7 +9,7 @@ use Rattle.c_tree.specs.declared.stmt.Stmt.TheBlock as b
 use denote.Hole.Carrier
 use Rattle.whole_code.specs.declared.op.Instruction.{Instruction}
 use Rattle.expr_gen.specs.Code.{branch_size, branch_code, expr_size, expr_code}
-use Rattle.stmt_gen.specs.Code.{Exits, locals_size, locals_code, cases_size, cases_code, switch_code, switch_exits, loop_code, loop_exits, stmt_size, stmts_size, index_in, stmt_code, stmts_code}
+use Rattle.stmt_gen.specs.Code.{Exits, locals_size, locals_code, cases_size, switch_code, switch_exits, loop_code, loop_exits, stmt_size, stmts_size, index_in, stmt_code, stmts_code}
 use Rattle.stmt_emit.specs.Lists.{statements_size, statements_code, starts_of}
 
 -- ---- rows

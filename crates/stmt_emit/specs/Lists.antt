@@ -1,5 +1,5 @@
 -- Code and sizes over the lists that Rust sees of a statement.
-use Rattle.std.specs.Prelude.{ℕ, zero, suc, ◌+◌, List, [], ◌∷◌, ◌++◌, Bool}
+use Rattle.std.specs.Prelude.{ℕ, ◌+◌, List, [], ◌∷◌, ◌++◌, Bool}
 use Rattle.c_tree.specs.declared.stmt.Stmt.{Stmt}
 use Rattle.whole_code.specs.declared.op.Instruction.{Instruction}
 use Rattle.stmt_gen.specs.Code.{Exits, stmt_size, stmt_code}

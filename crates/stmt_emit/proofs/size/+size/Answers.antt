@@ -1,5 +1,5 @@
 -- The sizes of a statement's parts are added up.
-use Rattle.std.proofs.Common.{◌≡◌, ◌+◌, ap, ◌∙◌, arith}
+use Rattle.std.proofs.Common.{ap, ◌∙◌, arith}
 use Rattle.stmt_gen.specs.Code.{locals_size, cases_size, stmt_size}
 use Rattle.stmt_emit.specs.Lists.{statements_size}
 use Rattle.stmt_emit.proofs.Views.{block_size, if_size, loop_size, switch_size}

@@ -1,5 +1,5 @@
 -- One more case has three instructions more.
-use Rattle.std.proofs.Common.{◌≡◌, ◌+◌, ap, arith}
+use Rattle.std.proofs.Common.{ap, arith}
 use Rattle.std.proofs.lemmas.List.{drop_more}
 use Rattle.c_tree.specs.declared.stmt.Case.{Case}
 use Rattle.stmt_gen.specs.Code.{cases_size}
