@@ -61,7 +61,7 @@ fn fault_of(fault: DeriveFault) -> DeclarationFault
 }
 
 /// Derivations with an outermost size that they don't say.
-fn sized(mut derivations: Vec<Derivation>, outermost: Option<ElementCount>) -> Vec<Derivation>
+fn with_outermost(mut derivations: Vec<Derivation>, outermost: Option<ElementCount>) -> Vec<Derivation>
     ensures { result.items ≡ sized outermost derivations.items }
 {
     match outermost {
@@ -83,7 +83,7 @@ fn derivations_in(
         ds.items ≡ derivations_in found.now.known found.now.outermost declarator.now) }
 {
     let derivations = derivations_of(alloc, &found.known, declarator)?;
-    Ok(sized(derivations, found.outermost))
+    Ok(with_outermost(derivations, found.outermost))
 }
 
 /// Whether the lists of parameters that a declarator names are this table's.
@@ -123,11 +123,11 @@ pub fn declarator_type(
     let Ok(derivations) = derivations_in(alloc, found, declarator) else {
         return Err(DeclarationFault::NoMemory);
     };
-    derived(types, base, derivations.as_slice())
+    derive_part(types, base, derivations.as_slice())
 }
 
 /// What derivations make of a base type, with the checker's faults.
-fn derived(
+fn derive_part(
     types: &mut Types,
     base: Part,
     derivations: &[Derivation],

@@ -24,7 +24,7 @@ use sqlite_items::Items;
 use std::alloc::Global;
 
 /// A declarator, whose name is in scope after it.
-pub fn declared(alloc: Global, cursor: &mut Cursor<'_>, room: u32) -> Result<Declarator, Fault>
+pub fn declarator_in_scope(alloc: Global, cursor: &mut Cursor<'_>, room: u32) -> Result<Declarator, Fault>
     ensures { Reads (spec.declared (inner room)) cursor.old result cursor.new }
 {
     let declarator = declarator(alloc, cursor, room)?;
@@ -81,7 +81,7 @@ impl<F: Fn(Global, &mut Cursor<'_>, u32, Construct) -> Result<Opened, Fault>> Ru
             cursor.old result cursor.new }
     {
         let start = cursor.start();
-        let declarator = declared(self.alloc, cursor, self.room)?;
+        let declarator = declarator_in_scope(self.alloc, cursor, self.room)?;
         let initialiser = self.optional_initialiser(cursor)?;
         let span = cursor.span(start);
         Ok(InitDeclarator {

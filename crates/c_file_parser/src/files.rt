@@ -10,7 +10,7 @@ ghost use Rattle.c_syntax.specs.Grammar.{inner};
 ghost use Rattle.c_expr_parser.specs.Reads.{Reads};
 
 use crate::bodies::body_scope;
-use crate::declarations::declared;
+use crate::declarations::declarator_in_scope;
 use crate::expressions::{assertion, specifiers};
 use crate::knot::{construct, function_items};
 use crate::nodes::{external_of, init_with, list_of};
@@ -97,7 +97,7 @@ fn tail(alloc: Global, cursor: &mut Cursor<'_>, room: u32) -> Result<Tail, Fault
         cursor.sign(Terminal::Semicolon)?;
         return Ok(Tail::Declaration(Items::new(alloc)));
     }
-    let declarator = declared(alloc, cursor, room)?;
+    let declarator = declarator_in_scope(alloc, cursor, room)?;
     behind_declarator(alloc, cursor, room, declarator)
 }
 

@@ -63,7 +63,7 @@ fn element_with(types: &Types, part: Part, set: Qualifiers) -> Part
 }
 
 /// Derivations in the other order.
-fn turned(mut derivations: Vec<Derivation>) -> Vec<Derivation>
+fn outermost_first(mut derivations: Vec<Derivation>) -> Vec<Derivation>
     ensures { result.items ≡ reverse derivations.items }
 {
     derivations.reverse();
@@ -101,7 +101,7 @@ pub fn qualify(
         arrays.push(Derivation::Array(ElementCount { value: array.count }))?;
         element = array.element;
     }
-    let outwards = turned(arrays);
+    let outwards = outermost_first(arrays);
     let base = element_with(types, element, set);
     match types.derive_all(base, outwards.as_slice()) {
         Ok(made) => Ok(made),

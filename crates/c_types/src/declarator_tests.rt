@@ -180,7 +180,7 @@ fn list(types: &mut Types, numbers: &[u32]) -> Result<u32, AllocError> {
 }
 
 /// What derivations make of a part.
-fn made(types: &mut Types, base: Part, derivations: &[Derivation]) -> Result<Part, Fail> {
+fn derive(types: &mut Types, base: Part, derivations: &[Derivation]) -> Result<Part, Fail> {
     if !types.is_part(base) {
         return Err("the base isn't there".into());
     }
@@ -198,28 +198,28 @@ fn a_pointer_to_a_function_that_gives_one(rt: HostRuntime) -> Result<(), Fail> {
     let int = base(&mut types, CIntType::Int)?;
     let character = base(&mut types, CIntType::Char)?;
     let of_int = list(&mut types, &[int.number])?;
-    let callback = made(&mut types, int, &[function(of_int), pointer()])?;
+    let callback = derive(&mut types, int, &[function(of_int), pointer()])?;
     let both = list(&mut types, &[callback.number, int.number])?;
     let of_char = list(&mut types, &[character.number])?;
-    let fp = made(
+    let fp = derive(
         &mut types,
         int,
         &[function(of_char), pointer(), function(both), pointer()],
     )?;
-    let outer = pointed(&types, fp).ok_or("no pointer")?;
+    let outer = pointee(&types, fp).ok_or("no pointer")?;
     assert_eq!(rt; parameters_of(&types, outer), Some(both));
     assert_eq!(rt;
         types.get(both),
         Some(Entry::Parameters(callback.number, of_int))
     );
     let given = result_of(&types, outer).ok_or("no function")?;
-    let inner = pointed(&types, given).ok_or("no pointer")?;
+    let inner = pointee(&types, given).ok_or("no pointer")?;
     assert_eq!(rt; parameters_of(&types, inner), Some(of_char));
     assert_eq!(rt; result_of(&types, inner), Some(int));
     Ok(())
 }
 
-fn pointed(types: &Types, part: Part) -> Option<Part> {
+fn pointee(types: &Types, part: Part) -> Option<Part> {
     match types.get(part.number) {
         Some(Entry::OfType(CType::Pointer(to))) => Some(to),
         _ => None,
@@ -246,20 +246,20 @@ fn arrays_of_arrays(rt: HostRuntime) -> Result<(), Fail> {
     let mut types = Types::new(rt.alloc());
     let int = base(&mut types, CIntType::Int)?;
     let none = list(&mut types, &[])?;
-    let table = made(&mut types, int, &[array(3), array(2)])?;
+    let table = derive(&mut types, int, &[array(3), array(2)])?;
     let Some(Entry::OfType(CType::ArrayOf(rows))) = types.get(table.number) else {
         return Err("no array".into());
     };
     assert_eq!(rt; (rows.count, rows.extent.size), (2, 12));
     assert_eq!(rt; size_of(&CType::ArrayOf(rows)), Ok(24));
-    let given = made(&mut types, table, &[pointer(), function(none)])?;
+    let given = derive(&mut types, table, &[pointer(), function(none)])?;
     let result = result_of(&types, given).ok_or("no function")?;
-    assert_eq!(rt; pointed(&types, result), Some(table));
+    assert_eq!(rt; pointee(&types, result), Some(table));
     if !types.is_part(table) {
         return Err("table".into());
     }
     let parameter = types.adjust(table)?;
-    assert_eq!(rt; pointed(&types, parameter), Some(rows.element));
+    assert_eq!(rt; pointee(&types, parameter), Some(rows.element));
     Ok(())
 }
 
@@ -271,7 +271,7 @@ fn long_declarator(rt: &HostRuntime, derivation: Derivation) -> Result<usize, Fa
     for _ in 0..100_000u32 {
         derivations.push(derivation)?;
     }
-    made(&mut types, int, &derivations)?;
+    derive(&mut types, int, &derivations)?;
     Ok(types.len())
 }
 
@@ -290,7 +290,7 @@ fn typedefs_of_typedefs_take_an_entry_each(rt: HostRuntime) -> Result<(), Fail> 
     let mut last = int;
     for _ in 0..300u32 {
         let twice = list(&mut types, &[last.number, last.number])?;
-        last = made(&mut types, last, &[function(twice), pointer()])?;
+        last = derive(&mut types, last, &[function(twice), pointer()])?;
     }
     assert_eq!(rt; types.len(), 1 + 1 + 300 * 4);
     Ok(())

@@ -131,7 +131,7 @@ pub(crate) fn name() -> Core {
     }
 }
 
-fn pointed(types: &Types, part: Part) -> Option<Part> {
+fn pointee(types: &Types, part: Part) -> Option<Part> {
     match types.get(part.number) {
         Some(Entry::OfType(CType::Pointer(to))) => Some(to),
         _ => None,
@@ -173,7 +173,7 @@ fn const_beside_an_array_is_its_elements(rt: HostRuntime) -> Result<(), Fail> {
         return Err("no part".into());
     }
     let parameter = types.adjust(second.ty)?;
-    assert_eq!(rt; pointed(&types, parameter), Some(elements.element));
+    assert_eq!(rt; pointee(&types, parameter), Some(elements.element));
     Ok(())
 }
 
@@ -257,7 +257,7 @@ fn parameters_are_adjusted(rt: HostRuntime) -> Result<(), Fail> {
         number: first,
         qualifiers: Qualifiers::empty(),
     };
-    assert_eq!(rt; pointed(&types, pointer), Some(int));
+    assert_eq!(rt; pointee(&types, pointer), Some(int));
     let Some(Entry::Parameters(second, rest)) = types.get(others) else {
         return Err("no second parameter".into());
     };

@@ -158,7 +158,7 @@ fn list_text<'a>(
         }
         ExprKind::Comma { first, rest } => {
             parts.push(Step::Tree(first.get()))?;
-            separated(&mut parts, ", ", rest.as_slice())?;
+            push_separated(&mut parts, ", ", rest.as_slice())?;
         }
         ExprKind::Postfix { operand, operators } => {
             parts.push(Step::Tree(operand.get()))?;
@@ -173,7 +173,7 @@ fn list_text<'a>(
 }
 
 /// Trees, with this before each.
-fn separated<'a>(
+fn push_separated<'a>(
     parts: &mut Vec<Step<'a>>,
     before: &'a str,
     trees: &'a [Expr],
@@ -195,7 +195,7 @@ fn behind<'a>(parts: &mut Vec<Step<'a>>, operator: &'a Postfix) -> Result<(), Al
         }
         PostfixKind::Call(arguments) => {
             parts.push(Step::Text("("))?;
-            separated(parts, " ", arguments.as_slice())?;
+            push_separated(parts, " ", arguments.as_slice())?;
             parts.push(Step::Text(" )"))?;
         }
         PostfixKind::Member(_)

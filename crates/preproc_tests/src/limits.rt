@@ -61,7 +61,7 @@ fn the_longest_list(rt: HostRuntime) -> Result<(), Fail> {
 }
 
 /// A condition: a text so many times, a 1 behind them, and another text as often.
-fn nested(alloc: Global, count: u32, before: &str, after: &str) -> Result<String, Fail> {
+fn nesting(alloc: Global, count: u32, before: &str, after: &str) -> Result<String, Fail> {
     let mut file = String::from_str(alloc, "#if ")?;
     for _ in 0..count {
         file.push_str(before)?;
@@ -90,7 +90,7 @@ fn a_condition_of_a_megabyte(rt: HostRuntime) -> Result<(), Fail> {
         ("sums in parentheses", 262_140, "0+(", ")", " 2:x"),
     ];
     for (name, count, before, after, want) in table {
-        let file = nested(rt.alloc(), count, before, after)?;
+        let file = nesting(rt.alloc(), count, before, after)?;
         let got = answer(rt.alloc(), file.as_bytes())?;
         assert_eq!(rt; got.as_str(), want, "{name}");
     }

@@ -171,7 +171,7 @@ fn go_on(code: &Code, thread: &mut CodeThread, answer: Answer)
                 thread.answer(code, answer);
             }
         }
-        Want::Poll => thread.polled(code),
+        Want::Poll => thread.pass_poll(code),
         Want::Instruction | Want::Stopped => {
             let _carried_out = thread.step(code, &places);
         }

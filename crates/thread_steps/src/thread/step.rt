@@ -338,7 +338,7 @@ impl CodeThread {
     }
 
     /// Goes on after a poll.
-    pub fn polled(&mut self, code: &Code)
+    pub fn pass_poll(&mut self, code: &Code)
         requires stands { IsThreadOf code.now self.old }
         requires wanted { want_of code.now self.old ≡ want.Poll }
         ensures exact { self.new ≡ thread_after_poll self.old }

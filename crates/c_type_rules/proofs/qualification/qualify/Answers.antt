@@ -24,21 +24,21 @@ loop-array-smaller c = falls c.args.types.now c.loop-array.element.number c.in-S
 pub derive_all-requires-clause-part : goal.derive_all-requires-clause-part
 derive_all-requires-clause-part c =
     base_part c.args.types.now c.args.part c.loop-array.element c.element_with-base.result c.loop-array.arrays.items c.as_slice.result.now c.args.set c.loop-array.invariant
-    (c.as_slice.ensures.value ∙ c.turned-outwards.ensures) c.element_with-base.ensures
+    (c.as_slice.ensures.value ∙ c.outermost_first-outwards.ensures) c.element_with-base.ensures
 
 pub derive_all-requires-clause-lists : goal.derive_all-requires-clause-lists
 derive_all-requires-clause-lists c =
     lists_fit c.args.types.now c.args.part c.loop-array.element c.element_with-base.result c.loop-array.arrays.items c.as_slice.result.now c.args.set c.loop-array.invariant
-    (c.as_slice.ensures.value ∙ c.turned-outwards.ensures) c.element_with-base.ensures
+    (c.as_slice.ensures.value ∙ c.outermost_first-outwards.ensures) c.element_with-base.ensures
 
 pub want_of_memory-requires : goal.want_of_memory-requires
 want_of_memory-requires c =
     subst (λ (o : Option TypeRule). IsCause o c.in-Err.fault)
     (none_broken c.args.types.now c.args.part c.loop-array.element c.element_with-base.result c.loop-array.arrays.items c.as_slice.result.now c.args.set c.loop-array.invariant
-    (c.as_slice.ensures.value ∙ c.turned-outwards.ensures) c.element_with-base.ensures)
+    (c.as_slice.ensures.value ∙ c.outermost_first-outwards.ensures) c.element_with-base.ensures)
     c.in-Err.ensures.fault
 
 pub returns-in-Ok-clause-qualified : goal.returns-in-Ok-clause-qualified
 returns-in-Ok-clause-qualified c =
     qualified c.args.types.now c.args.part c.loop-array.element c.element_with-base.result c.loop-array.arrays.items c.as_slice.result.now c.args.set c.loop-array.invariant
-    (c.as_slice.ensures.value ∙ c.turned-outwards.ensures) c.element_with-base.ensures c.derive_all.new.self c.in-Ok.made c.in_default.ensures.none c.derive_all.ensures.kept c.in-Ok.ensures.made
+    (c.as_slice.ensures.value ∙ c.outermost_first-outwards.ensures) c.element_with-base.ensures c.derive_all.new.self c.in-Ok.made c.in_default.ensures.none c.derive_all.ensures.kept c.in-Ok.ensures.made

@@ -5,7 +5,7 @@ use Rattle.whole_thread.specs.Thread.{Thread}
 use Rattle.thread_steps.specs.Stands.{StandsIn, IsThreadOf}
 use Rattle.thread_steps.proofs.Over.{polls_still}
 use Rattle.thread_steps.proofs.Standing.{poll_stands}
-use Rattle.thread_steps.proofs.thread.CodeThread.polled.Goals as goal
+use Rattle.thread_steps.proofs.thread.CodeThread.pass_poll.Goals as goal
 
 pub instruction-i-requires : goal.instruction-i-requires
 instruction-i-requires c = polls_still c.args.code.now c.args.self.now c.requires.stands c.requires.wanted

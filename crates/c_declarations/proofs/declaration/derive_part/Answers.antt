@@ -5,7 +5,7 @@ use Rattle.c_types.specs.Declarators.{shape_at}
 use Rattle.c_declarations.specs.Specified.{IsCause}
 use Rattle.c_declarations.specs.Declarations.{known_rule}
 use Rattle.c_declarations.proofs.Declaring.{cause_of}
-use Rattle.c_declarations.proofs.declaration.derived.Goals as goal
+use Rattle.c_declarations.proofs.declaration.derive_part.Goals as goal
 
 pub returns-in-Ok-clause-fine : goal.returns-in-Ok-clause-fine
 returns-in-Ok-clause-fine c = ap known_rule c.in-Ok.ensures.fine
