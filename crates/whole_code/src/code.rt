@@ -54,6 +54,19 @@ impl Code {
         }
     }
 
+    /// The functions, the static objects and the number of `main`.
+    pub fn into_parts(self) -> (Vec<CodeFunction>, Vec<StaticDef>, u32)
+        ensures parts { plain_code result.0.items result.1.items result.2 ≡ self }
+        ensures well_formed { IsWellFormed self }
+    {
+        let Code {
+            functions,
+            statics,
+            main,
+        } = self;
+        (functions, statics, main)
+    }
+
     /// The number of the function that a run begins with.
     pub fn main(&self) -> u32
         ensures value { result ≡ self.now.main }

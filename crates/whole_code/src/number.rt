@@ -24,25 +24,24 @@ pub fn operator_at(number: u32) -> BinOp
     requires { IsOperatorNumber number }
     ensures { result ≡ operator_at number }
 {
-    const OPERATORS: [BinOp; 16] = [
-        BinOp::Add,
-        BinOp::Sub,
-        BinOp::Mul,
-        BinOp::Div,
-        BinOp::Rem,
-        BinOp::And,
-        BinOp::Or,
-        BinOp::Xor,
-        BinOp::Shl,
-        BinOp::Shr,
-        BinOp::Lt,
-        BinOp::Le,
-        BinOp::Gt,
-        BinOp::Ge,
-        BinOp::Eq,
-        BinOp::Ne,
-    ];
-    OPERATORS[number as usize]
+    match number {
+        0 => BinOp::Add,
+        1 => BinOp::Sub,
+        2 => BinOp::Mul,
+        3 => BinOp::Div,
+        4 => BinOp::Rem,
+        5 => BinOp::And,
+        6 => BinOp::Or,
+        7 => BinOp::Xor,
+        8 => BinOp::Shl,
+        9 => BinOp::Shr,
+        10 => BinOp::Lt,
+        11 => BinOp::Le,
+        12 => BinOp::Gt,
+        13 => BinOp::Ge,
+        14 => BinOp::Eq,
+        _ => BinOp::Ne,
+    }
 }
 
 /// The number of a type, which stands for it again; it is that of one for arithmetic where the type
@@ -62,16 +61,15 @@ pub fn type_at(number: u32) -> IntType
     ensures same { result ≡ type_at number }
     ensures arithmetic { IsArithmeticNumber number → IsTrue (is_promoted result) }
 {
-    const TYPES: [IntType; 9] = [
-        IntType::Bool,
-        IntType::I8,
-        IntType::U8,
-        IntType::I16,
-        IntType::U16,
-        IntType::I32,
-        IntType::U32,
-        IntType::I64,
-        IntType::U64,
-    ];
-    TYPES[number as usize]
+    match number {
+        0 => IntType::Bool,
+        1 => IntType::I8,
+        2 => IntType::U8,
+        3 => IntType::I16,
+        4 => IntType::U16,
+        5 => IntType::I32,
+        6 => IntType::U32,
+        7 => IntType::I64,
+        _ => IntType::U64,
+    }
 }
