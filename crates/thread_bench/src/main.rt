@@ -1,4 +1,4 @@
-//! Carries out a loop of so many rounds by `step` alone, and prints how many instructions it was and
+//! Carries out a loop of so many rounds by one call of `turns`, and prints how many instructions it was and
 //! what `main` returns: what `bench/thread_steps` measures.
 #![tactic(auto)]
 
@@ -107,12 +107,7 @@ fn carry_out(code: &Code, thread: &mut CodeThread, most: u64) -> u64
     ensures stands { IsThreadOf code.now thread.new }
 {
     let places: [u64; 0] = [];
-    for turn in 0..most {
-        if !thread.step(code, &places) {
-            return turn;
-        }
-    }
-    most
+    thread.turns(code, &places, most)
 }
 
 fn main(rt: HostRuntime) -> Result<()> {

@@ -10,3 +10,5 @@ mod Near
 mod Registers
 mod Freed
 mod Over
+mod LowBits
+mod Leads

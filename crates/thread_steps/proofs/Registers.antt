@@ -46,7 +46,7 @@ index_here waiting (suc depth) values r lt =
     ap (λ (b : Bool). if b then 256 * suc depth + r else block_index waiting depth (waiting_at waiting depth).values (r - values_in_frame values))
     (sym (lt_true r (values_in_frame values) lt))
 
-not_less : (a b : ℕ) → b ≤ a → nat_lt a b ≡ false
+pub not_less : (a b : ℕ) → b ≤ a → nat_lt a b ≡ false
 not_less a b le = search rules
 
 pub index_past :

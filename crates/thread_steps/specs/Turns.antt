@@ -1,5 +1,5 @@
 -- One turn of a thread: it carries out its instruction where it wants to, and else it stays.
-use Rattle.std.specs.Prelude.{ℕ, ◌==◌, Bool, true, false, List, Option, Some, None, length, slice_index, if◌then◌else◌}
+use Rattle.std.specs.Prelude.{◌≡◌, ℕ, zero, suc, ◌+◌, ◌==◌, Bool, true, false, List, Option, Some, None, length, slice_index, if◌then◌else◌}
 use Rattle.whole_code.specs.declared.op.Op.{Op}
 use Rattle.whole_code.specs.declared.op.Op.TheVariants as op
 use Rattle.whole_code.specs.declared.op.Instruction.{Instruction}
@@ -9,7 +9,7 @@ use Rattle.whole_thread.specs.declared.stage.Want.TheVariants as want
 use Rattle.whole_thread.specs.declared.stage.Stage.{Stage}
 use Rattle.whole_thread.specs.declared.stage.Stage.TheVariants as stage
 use Rattle.whole_thread.specs.Standing.{trap_line, register, registers_from}
-use Rattle.whole_thread.specs.Thread.{Thread, calls, calls_half, step_by, thread_after_step}
+use Rattle.whole_thread.specs.Thread.{Thread, want_of, calls, calls_half, step_by, thread_after_step}
 use Rattle.thread_steps.specs.Usable.{Room}
 
 -- an instruction is to be carried out on registers
@@ -39,6 +39,26 @@ turn_by done code places thread i o = if done then step_by code (place_in places
 
 abbrev pub thread_after_turn : Bool → PlainCode → (places : List ℕ) → Thread → Thread
 thread_after_turn done code places thread = if done then thread_after_step code (place_in places) thread else thread
+
+-- ---- many turns
+
+-- a thread after so many instructions on registers
+abbrev pub thread_after_turns : (count : ℕ) → PlainCode → (places : List ℕ) → Thread → Thread
+thread_after_turns zero code places thread = thread
+thread_after_turns (suc count) code places thread = thread_after_turns count code places (thread_after_turn true code places thread)
+
+-- how many of the next instructions are on registers, at most so many: a thread carries them out until it wants something else
+abbrev pub turns_within : (most : ℕ) → PlainCode → (places : List ℕ) → Thread → ℕ
+turns_within zero code places thread = 0
+turns_within (suc most) code places thread =
+    if is_instruction (want_of code thread) then turns_within most code places (thread_after_turn true code places thread) + 1 else 0
+
+-- so many turns lead from a thread to another: what follows them is what follows the thread then
+pub record Leads (code : PlainCode) (places : List ℕ) (count : ℕ) (old new : Thread) : Type 0 where
+  pub after : (more : ℕ) → thread_after_turns (count + more) code places old ≡ thread_after_turns more code places new
+  pub within : (more : ℕ) → turns_within (count + more) code places old ≡ count + turns_within more code places new
+
+-- ---- what an instruction meets
 
 -- what an instruction of a thread may use
 abbrev pub room_of : PlainCode → Thread → Room

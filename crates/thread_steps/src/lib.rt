@@ -7,10 +7,9 @@
 #![tactic(auto)]
 
 mod activation;
+mod arithmetic;
 mod constants;
 pub mod laws;
-#[cfg(test)]
-mod tests;
 mod thread;
 
 pub use thread::CodeThread;

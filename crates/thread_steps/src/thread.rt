@@ -18,6 +18,7 @@ mod calls;
 mod registers;
 mod reply;
 mod step;
+mod turns;
 mod want;
 
 use crate::activation::Activation;
@@ -139,17 +140,27 @@ impl CodeThread {
         matches!(self.stage, Stage::Over(_))
     }
 
+    /// The function in which the thread is, and the index of the instruction at which it stands there.
+    pub fn at(&self) -> (u32, usize)
+        ensures function { result.0 ≡ self.now.at.frame.function }
+        ensures index { result.1 ≡ self.now.at.frame.index }
+    {
+        (self.function, self.index)
+    }
+
     /// The instruction at which the thread stands.
-    fn instruction<'a>(&self, code: &'a Code) -> &'a Instruction
+    pub fn instruction<'a>(&self, code: &'a Code) -> &'a Instruction
         requires { StandsIn code.now self.now }
         ensures here { here code.now self.now ≡ Some result.now }
         ensures usable { IsUsable (room_of code.now self.now) result.now.op }
         ensures index { self.now.at.frame.index + 1 < 2 ^ 64 }
     {
-        &code.function(self.function).instructions[self.index]
+        let _functions = code.functions();
+        self.instruction_in(code, code.function(self.function))
     }
 
     /// A register of the innermost activation.
+    #[inline(always)]
     fn value_of(&self, r: u32) -> Value
         requires { r < length self.now.at.frame.registers }
         ensures { result ≡ register self.now.at r }
@@ -157,7 +168,16 @@ impl CodeThread {
         self.registers[self.base + r as usize]
     }
 
+    /// A register of the innermost frame: an operand of the instruction at hand.
+    pub fn operand(&self, r: u32) -> Value
+        requires { r < length self.now.at.frame.registers }
+        ensures { result ≡ register self.now.at r }
+    {
+        self.value_of(r)
+    }
+
     /// Writes a register of the innermost activation.
+    #[inline(always)]
     fn put(&mut self, d: u32, value: Value)
         requires { d < length self.old.at.frame.registers }
         ensures { self.new ≡ record self.old { at = with_register self.old.at d value } }
@@ -166,7 +186,8 @@ impl CodeThread {
     }
 
     /// Whether the thread stands before its instruction, and in no further round of it.
-    fn is_before(&self) -> bool
+    #[inline(always)]
+    pub fn is_before(&self) -> bool
         ensures { result ≡ is_before (stage_of self.now) }
     {
         matches!((self.granted, self.stage), (None, Stage::Before))

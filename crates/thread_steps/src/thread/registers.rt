@@ -28,19 +28,26 @@ fn count(callers: &Vec<Activation>, depth: usize, values: u32) -> u32
 }
 
 /// Where a register stands in the block, counted from a depth on outwards.
-fn index_of(callers: &Vec<Activation>, depth: usize, values: u32, register: u32) -> usize
+fn index_of(
+    callers: &Vec<Activation>,
+    mut depth: usize,
+    mut values: u32,
+    mut register: u32,
+) -> usize
     requires callers { length callers.now.items ≡ ACTIVATIONS }
     requires depth { depth < ACTIVATIONS }
     requires there { register < block_count callers.now.items depth values }
     ensures value { result ≡ block_index callers.now.items depth values register }
     ensures within { result < BLOCK }
 {
-    let have = fewer(values, REGISTERS);
-    if register < have {
-        return FRAME * depth + register as usize;
+    let mut have = fewer(values, REGISTERS);
+    while have <= register {
+        register -= have;
+        depth -= 1;
+        values = callers[depth].values;
+        have = fewer(values, REGISTERS);
     }
-    let outside = depth - 1;
-    index_of(callers, outside, callers[outside].values, register - have)
+    FRAME * depth + register as usize
 }
 
 impl CodeThread {

@@ -22,14 +22,16 @@ ghost use Rattle.thread_steps.specs.Usable.{IsUsable};
 ghost use Rattle.thread_steps.specs.Turns.{is_instruction, turn_by, room_of, is_of_kind, calls_by};
 ghost use Rattle.thread_steps.specs.Turns.{thread_after_turn};
 
+use crate::arithmetic::{arithmetic, converted};
 use crate::constants::{FIRST_ADDRESS, THREAD_KIND, WORD_BYTES};
 use crate::thread::CodeThread;
-use filc_num::{ArithFault, BinOp, Reason, binary, convert};
+use filc_num::{ArithFault, Reason};
 use ideal_machine::{Half, Value};
-use whole_code::{Code, Instruction, Op, operator_at, type_at};
+use whole_code::{Code, Instruction, Op, type_at};
 use whole_thread::Stage;
 
 /// An integer as a value.
+#[inline(always)]
 pub const fn integer(number: u64) -> Value
     ensures { result ≡ integer number }
 {
@@ -49,24 +51,8 @@ fn reason_of(fault: ArithFault) -> Reason
     }
 }
 
-/// An operator on two integers, which are converted to its type before, but for a shift's count
-/// (C11 6.3.1.8).
-fn arithmetic(op: u32, t: u32, a: u64, b: u64) -> Result<u64, ArithFault>
-    requires op { IsOperatorNumber op }
-    requires t { IsArithmeticNumber t }
-    ensures { result ≡ operator_result (operator_at op) (type_at t) a b }
-{
-    let op = operator_at(op);
-    let ty = type_at(t);
-    let left = convert(a, ty);
-    match op {
-        BinOp::Shl | BinOp::Shr => binary(op, ty, left, b),
-        _ => binary(op, ty, left, convert(b, ty)),
-    }
-}
-
 /// The pointer to the object at a place.
-fn object_pointer(place: u64) -> Value
+pub(super) fn object_pointer(place: u64) -> Value
     requires { IsPlace place }
     ensures { result ≡ object_pointer place_address place }
 {
@@ -77,7 +63,7 @@ fn object_pointer(place: u64) -> Value
 }
 
 /// The pointer to a function.
-fn function_pointer(number: u32) -> Value
+pub(super) fn function_pointer(number: u32) -> Value
     ensures { result ≡ function_pointer number }
 {
     Value {
@@ -87,7 +73,8 @@ fn function_pointer(number: u32) -> Value
 }
 
 /// A pointer, moved by so many elements (C11 6.5.6).
-fn advance(pointer: Value, count: u64, bytes: u32) -> Value
+#[inline(always)]
+pub(super) fn advance(pointer: Value, count: u64, bytes: u32) -> Value
     ensures { result ≡ advance pointer (count * bytes) }
 {
     Value {
@@ -215,7 +202,7 @@ impl CodeThread {
             (integer (convert_of (register self.old.at a).number (type_at t))) }
     {
         let number = self.value_of(a).number;
-        self.set(d, integer(convert(number, type_at(t))));
+        self.set(d, integer(converted(number, type_at(t))));
     }
 
     /// Writes what an operator gives of two registers, or traps.

@@ -7,11 +7,11 @@ ghost use Rattle.thread_steps.specs.Stands.{IsThreadOf};
 ghost use Rattle.whole_code.specs.WellFormed.{IsFunctionWellFormed};
 ghost use Rattle.whole_thread.specs.declared.stage.Want.TheVariants as want;
 
-use crate::CodeThread;
 use filc_num::Reason;
 use ideal_machine::{Access, Answer, Event, Half};
 use std::alloc::Global;
 use std::test::Fail;
+use thread_steps::CodeThread;
 use whole_code::{Code, CodeFunction, Instruction, Op};
 use whole_thread::Want;
 
@@ -185,12 +185,7 @@ fn turns(code: &Code, thread: &mut CodeThread, most: u64) -> u64
     ensures { IsThreadOf code.now thread.new }
 {
     let places: [u64; 0] = [];
-    for turn in 0..most {
-        if !thread.step(code, &places) {
-            return turn;
-        }
-    }
-    most
+    thread.turns(code, &places, most)
 }
 
 /// The numbers of all registers, from the innermost frame on.
