@@ -283,7 +283,21 @@ impl CodeThread {
             Op::Spawn { d, .. } => self.take_or(d, u64::MAX, id_reply(answer)),
             Op::Join { d, .. } => self.take_or(d, NO_THREAD, id_reply(answer)),
             Op::Exit { a } => self.leave_with(true, a, answer),
-            _ => {}
+            Op::Const { .. }
+            | Op::Move { .. }
+            | Op::StaticAt { .. }
+            | Op::FunctionAt { .. }
+            | Op::Convert { .. }
+            | Op::Binary { .. }
+            | Op::PointerAdd { .. }
+            | Op::ToPointer { .. }
+            | Op::Jump { .. }
+            | Op::JumpZero { .. }
+            | Op::Poll
+            | Op::Call { .. }
+            | Op::CallPointer { .. }
+            | Op::SelfId { .. }
+            | Op::Abort => {}
         }
     }
 
