@@ -97,7 +97,14 @@ impl CodeThread {
 
     /// Writes what an operator gives, where it has a result.
     #[inline(always)]
-    fn write_result(&mut self, i: &Instruction, d: u32, operator: (u32, u32), a: u64, b: u64) -> bool
+    fn write_result(
+        &mut self,
+        i: &Instruction,
+        d: u32,
+        operator: (u32, u32),
+        a: u64,
+        b: u64,
+    ) -> bool
         requires before { is_before (stage_of self.old) ≡ true }
         requires register { d < length self.old.at.frame.registers }
         requires index { self.old.at.frame.index + 1 < 2 ^ 64 }
