@@ -1,5 +1,5 @@
 -- A thread of which a half is freed stands where it stood.
-use Rattle.std.proofs.Common.{◌≡◌, ◌<◌, ◌≤◌, ◌-◌, ℕ, suc, List, [], ◌∷◌, length, ◌⊎◌, inl, inr, Bool, true, false, refl, sym, ap, ◌∙◌, subst, arith}
+use Rattle.std.proofs.Common.{◌≡◌, ◌<◌, ◌≤◌, ◌-◌, ℕ, suc, List, [], ◌∷◌, length, inl, inr, Bool, true, false, refl, ap, ◌∙◌, arith}
 use Rattle.std.specs.Prelude.{All, nat_lt, if◌then◌else◌}
 use Rattle.ideal_machine.specs.declared.value.Half.TheVariants.{Freed}
 use Rattle.ideal_machine.specs.declared.value.Value.{Value}
@@ -8,7 +8,7 @@ use Rattle.whole_code.specs.Plain.{PlainCode}
 use Rattle.whole_thread.specs.Standing.{Caller}
 use Rattle.whole_thread.specs.Thread.{Thread}
 use Rattle.thread_steps.specs.Registers.{count_in, register_count, register_of, caller_with, callers_with, thread_with, thread_with_freed}
-use Rattle.thread_steps.specs.Stands.{IsFrameOf, IsCallerOf, StandsIn, is_over, IsThreadOf, FreedStands}
+use Rattle.thread_steps.specs.Stands.{IsCallerOf, StandsIn, is_over, IsThreadOf, FreedStands}
 use Rattle.thread_steps.proofs.Passing.{lt_holds, lt_fails}
 use Rattle.thread_steps.proofs.Standing.{length_put, all_first, all_rest}
 

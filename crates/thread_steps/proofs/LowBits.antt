@@ -1,14 +1,13 @@
 -- The low bits of a result depend on those of the operands alone.
-use Rattle.std.proofs.Common.{◌≡◌, ◌≢◌, ℕ, ◌+◌, ◌*◌, ◌/◌, ◌%◌, ◌^◌, ◌<◌, ◌≤◌, ◌-◌, ◌*ℤ◌, cond, pos, refl, sym, ap, ◌∙◌, arith, subst, IsTrue, Ok, Err, Result, Bool}
-use Rattle.std.specs.Prelude.{bit_and, bit_or, bit_xor, nat_lt}
+use Rattle.std.proofs.Common.{◌≡◌, ◌≢◌, ℕ, ◌+◌, ◌*◌, ◌/◌, ◌%◌, ◌^◌, ◌<◌, ◌≤◌, ◌-◌, ◌*ℤ◌, cond, pos, refl, sym, ap, ◌∙◌, arith, subst, IsTrue, Ok, Err, Bool}
+use Rattle.std.specs.Prelude.{bit_and, bit_or, bit_xor}
 use Rattle.std.proofs.lemmas.Nat.{mod-pow-add, mod_low, mod_below, pow_pos, mul-mod, and_mod, or_mod, xor_mod}
 use Rattle.std.proofs.Math.Nat.{add-mod}
 use Rattle.filc_num.specs.declared.integer.IntType.{IntType}
 use Rattle.filc_num.specs.declared.integer.IntType.TheVariants.{Bool as BoolType, I8, U8, I16, U16, I32, U32, I64, U64}
-use Rattle.filc_num.specs.declared.integer.ArithFault.{ArithFault}
 use Rattle.filc_num.specs.declared.integer.ArithFault.TheVariants.{Shift}
 use Rattle.filc_num.specs.declared.integer.BinOp.TheVariants.{Add, Sub, Mul, And, Or, Xor, Shl}
-use Rattle.filc_num.specs.Integers.{width_of, count_of, value_of, bits_of, convert_of, is_promoted, binary_of}
+use Rattle.filc_num.specs.Integers.{width_of, value_of, bits_of, convert_of, is_promoted, binary_of}
 use Rattle.filc_num.proofs.Conversions.{IsValue-convert_of, convert_of-low, convert_of-congruent}
 use Rattle.filc_num.proofs.Residues.{sum_of_values, difference_of_values, product_of_values, product_with_power}
 use Rattle.ideal_machine.specs.Phrases.{operator_result}

@@ -1,5 +1,5 @@
 -- A thread that is over wants nothing and takes no answer, whatever code it is shown.
-use Rattle.std.proofs.Common.{◌≡◌, ◌⊎◌, inl, inr, ℕ, true, false, Option, Some, None, refl}
+use Rattle.std.proofs.Common.{◌≡◌, inl, inr, ℕ, true, false, Option, Some, None, refl}
 use Rattle.whole_code.specs.declared.op.Op.{Op}
 use Rattle.whole_code.specs.declared.op.Instruction.{Instruction}
 use Rattle.whole_code.specs.Plain.{PlainCode}

@@ -11,7 +11,7 @@ use Rattle.whole_thread.specs.Standing.{Caller}
 use Rattle.whole_thread.specs.Thread.{Thread}
 use Rattle.thread_steps.specs.declared.activation.Activation.{Activation}
 use Rattle.thread_steps.specs.Blocks.{frame_registers, caller_of, callers_of, no_activation}
-use Rattle.thread_steps.specs.Registers.{count_in, register_in, register_of, caller_with, callers_with, thread_with, thread_with_freed, values_in_frame, waiting_count, block_count, block_index}
+use Rattle.thread_steps.specs.Registers.{count_in, register_in, caller_with, callers_with, thread_with, thread_with_freed, values_in_frame, waiting_count, block_count, block_index}
 use Rattle.thread_steps.proofs.Blocks.{value_at_get, frame_value, frame_write, callers_same}
 use Rattle.thread_steps.proofs.Passing.{lt_true, lt_holds, lt_fails}
 

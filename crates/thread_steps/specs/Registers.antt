@@ -2,7 +2,7 @@
 --
 -- A register may have lost its object, where the object's cell is freed: its half becomes Freed, and nothing else
 -- changes. What a thread wants is told of its registers each time, so an event that has the half from there has Freed too.
-use Rattle.std.specs.Prelude.{◌≡◌, ℕ, zero, suc, ◌+◌, ◌-◌, ◌*◌, ◌<◌, min, List, [], ◌∷◌, length, nat_lt, slice_index_or, if◌then◌else◌}
+use Rattle.std.specs.Prelude.{ℕ, zero, suc, ◌+◌, ◌-◌, ◌*◌, min, List, [], ◌∷◌, length, nat_lt, slice_index_or, if◌then◌else◌}
 use Rattle.filc_num.specs.declared.registers.TheConstants.{REGISTERS}
 use Rattle.ideal_machine.specs.declared.value.Half.TheVariants.{Freed}
 use Rattle.ideal_machine.specs.declared.value.Value.{Value}

@@ -1,5 +1,5 @@
 -- The low bits of `|` are those of the operands.
-use Rattle.std.proofs.Common.{ℕ, Ok, ap, ◌∙◌, arith}
+use Rattle.std.proofs.Common.{ℕ, Ok, ap, ◌∙◌}
 use Rattle.thread_steps.proofs.LowBits.{or_is}
 use Rattle.thread_steps.proofs.arithmetic.bits_of_either.Goals as goal
 

@@ -1,5 +1,5 @@
 -- The low bits of a product are those of the operands' product.
-use Rattle.std.proofs.Common.{ℕ, Ok, ap, ◌∙◌, arith}
+use Rattle.std.proofs.Common.{ℕ, Ok, ap, ◌∙◌}
 use Rattle.thread_steps.proofs.LowBits.{product_is}
 use Rattle.thread_steps.proofs.arithmetic.product.Goals as goal
 

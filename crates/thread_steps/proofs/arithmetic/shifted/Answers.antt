@@ -1,5 +1,5 @@
 -- The low bits of a shift to the left are those of the operand.
-use Rattle.std.proofs.Common.{ℕ, Ok, ap, ◌∙◌, arith}
+use Rattle.std.proofs.Common.{ℕ, Ok, ap, ◌∙◌}
 use Rattle.thread_steps.proofs.LowBits.{shift_is}
 use Rattle.thread_steps.proofs.arithmetic.shifted.Goals as goal
 

@@ -1,5 +1,5 @@
 -- The low bits of a sum are those of the operands' sum.
-use Rattle.std.proofs.Common.{ℕ, Ok, ap, ◌∙◌, arith}
+use Rattle.std.proofs.Common.{ℕ, Ok, ap, ◌∙◌}
 use Rattle.thread_steps.proofs.LowBits.{sum_is}
 use Rattle.thread_steps.proofs.arithmetic.sum.Goals as goal
 

@@ -1,6 +1,5 @@
 -- What is read of well-formed code may use what it names.
-use Rattle.std.proofs.Common.{◌≡◌, ◌<◌, length, Some, sym, ap, ◌∙◌, subst}
-use Rattle.std.specs.Prelude.{slice_get}
+use Rattle.std.proofs.Common.{◌≡◌, ◌<◌, length, sym, ap, ◌∙◌, subst}
 use Rattle.whole_code.specs.declared.op.Instruction.{Instruction}
 use Rattle.whole_code.specs.Plain.{PlainFunction, plain_function}
 use Rattle.whole_code.specs.WellFormed.{named_in, IsOpWellFormed, IsFunctionWellFormed}

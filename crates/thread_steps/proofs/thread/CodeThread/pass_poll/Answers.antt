@@ -1,8 +1,7 @@
 -- A thread that goes on after a poll stands at the next instruction.
-use Rattle.std.proofs.Common.{◌⊎◌, inl, inr, sym, ◌∙◌, subst}
-use Rattle.whole_code.specs.Plain.{PlainCode}
+use Rattle.std.proofs.Common.{inl, sym, subst}
 use Rattle.whole_thread.specs.Thread.{Thread}
-use Rattle.thread_steps.specs.Stands.{StandsIn, IsThreadOf}
+use Rattle.thread_steps.specs.Stands.{StandsIn}
 use Rattle.thread_steps.proofs.Over.{polls_still}
 use Rattle.thread_steps.proofs.Standing.{poll_stands}
 use Rattle.thread_steps.proofs.thread.CodeThread.pass_poll.Goals as goal

@@ -2,8 +2,7 @@
 use Rattle.std.proofs.Common.{◌≡◌, ℕ, ◌+◌, Some, Bool, true, slice_get, sym, ap, ◌∙◌, subst}
 use Rattle.whole_code.specs.Plain.{plain_function}
 use Rattle.whole_thread.specs.Thread.{Thread, want_of}
-use Rattle.thread_steps.specs.Stands.{StandsIn}
-use Rattle.thread_steps.specs.Turns.{is_instruction, turn_by, thread_after_turn, Leads}
+use Rattle.thread_steps.specs.Turns.{is_instruction, thread_after_turn, Leads}
 use Rattle.thread_steps.proofs.Leads.{leads_none, leads_more, before_wants}
 use Rattle.thread_steps.proofs.Turns.{turn_here, new_stands}
 use Rattle.thread_steps.proofs.thread.CodeThread.turns_in.Goals as goal
