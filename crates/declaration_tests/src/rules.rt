@@ -1,4 +1,7 @@
 //! Declarations by hand, as the grammar's tree has them, and the types that C's reading of them gives.
+//!
+//! The contracts say that a type is that of the definitions; these rows say that the definitions mean C (C11 6.7).
+//! Where a declaration breaks two rules, its row says which of them decides.
 
 use bitflags::Flags;
 use c_declarations::{
