@@ -1,4 +1,4 @@
-//! The expansion of a name: a depth-first search over the entries, which keeps what it found.
+//! The expansion of a name: a memoised depth-first search over the entries, with sparse sets of them.
 //!
 //! 1. A name that is defined and not being expanded opens a frame, unless its expansion is kept: then
 //!    the kept tokens are copied. Any other token is put into the store.

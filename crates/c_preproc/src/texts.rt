@@ -14,12 +14,14 @@ pub fn text_of(bytes: &[u8], token: Token) -> &[u8]
     &bytes[start..end]
 }
 
+/// Whether the two texts have the same bytes.
 pub fn is_same_text(a: &[u8], b: &[u8]) -> bool
     ensures { result ≡ same_text a.now b.now }
 {
     a == b
 }
 
+/// Whether the token is a name: keywords are names too.
 pub fn is_name(token: Token) -> bool
     ensures { result ≡ is_name token }
 {

@@ -1,4 +1,4 @@
-//! The numbers of words, while a list is read from its front.
+//! Interning of names: the numbers of words, while a list is read from its front.
 
 ghost use Rattle.std.specs.Prelude.{◌≡◌, IfOk, IfSome, OnOk, unwrap_or};
 ghost use Rattle.c_terminals.specs.Places.{IsNumbering, IsSameAt, place_of};

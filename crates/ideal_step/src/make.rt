@@ -153,12 +153,14 @@ impl Ideal {
         self.input_taken += 1;
     }
 
+    /// So many cycles of the collector have ended.
     pub(crate) fn set_cycles(&mut self, cycles: u64)
         ensures { self.new ≡ record self.old { cycles = cycles } }
     {
         self.cycles = cycles;
     }
 
+    /// The program has ended so.
     pub(crate) fn set_finish(&mut self, finish: Finish)
         ensures { self.new ≡ with_finish self.old finish }
     {

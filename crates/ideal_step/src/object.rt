@@ -115,18 +115,21 @@ impl Object {
         }
     }
 
+    /// How many bytes the object has.
     pub fn bytes(&self) -> u64
         ensures { result ≡ self.now.bytes }
     {
         self.bytes
     }
 
+    /// Whether the object was freed.
     pub fn is_freed(&self) -> bool
         ensures { result ≡ self.now.freed }
     {
         self.freed
     }
 
+    /// Whether a later object lies on its bytes.
     pub fn is_covered(&self) -> bool
         ensures { result ≡ self.now.covered }
     {

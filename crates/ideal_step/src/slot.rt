@@ -38,18 +38,21 @@ impl Model for Slot {
 }
 
 impl Slot {
+    /// How many threads the slot has had.
     pub fn generation(&self) -> u64
         ensures { result ≡ self.now.generation }
     {
         self.generation
     }
 
+    /// Whether no thread has the slot.
     pub fn is_free(&self) -> bool
         ensures { IsTrue result ↔ (self.now.state ≡ Free) }
     {
         self.state == State::Free
     }
 
+    /// Whether a thread runs in the slot.
     pub fn is_running(&self) -> bool
         ensures { IsTrue result ↔ (self.now.state ≡ Running) }
     {
