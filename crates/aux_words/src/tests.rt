@@ -1,5 +1,6 @@
 //! Each piece on a small map by worked values. A row says what the piece tells and which word it
 //! changes, so a wrong place shows whatever the specs call it.
+//! Objects have a table or none: without one a half is 0, and none is set.
 
 use crate::{Install, ReadHalf, WriteHalf};
 use heap_words::{PlainWords, try_alone};

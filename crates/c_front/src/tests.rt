@@ -1,4 +1,7 @@
 //! Each kind of refusal before the parser, with its line, and files that have none.
+//!
+//! The contract says that a refusal is that of the definition; these rows say which phase decides where two phases
+//! have a fault: the lexer, also where the preprocessor would find one on an earlier line.
 
 use super::*;
 use std::alloc::Global;

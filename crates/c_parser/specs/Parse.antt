@@ -1,4 +1,7 @@
--- What parsing a token list gives.
+-- What parsing a token list gives: the tree that spells it, or the token at which it is refused.
+--
+-- The tokens are seen as `lexemes_of` says: each by its terminal, its name's number and its line. What spells what is
+-- the grammar's matter (`c_syntax/specs/Files.antt`), and so is which token is refused (`Spelling.antt` beside it).
 use Rattle.std.specs.Prelude.{◌≡◌, ℕ, List}
 use Rattle.c_lexer.specs.declared.token.Token.{Token}
 use Rattle.c_parts.specs.declared.lexeme.Lexeme.{Lexeme}

@@ -1,4 +1,7 @@
 //! Declarations by hand, as the grammar's tree has them, and the types that C's reading of them gives.
+//!
+//! The contracts say that a type is that of the definitions; these rows say that the definitions mean C (C11 6.7).
+//! Where a declaration breaks two rules, its row says which of them decides.
 
 use bitflags::Flags;
 use c_declarations::{
@@ -87,6 +90,7 @@ pub(crate) fn declarator(
     })
 }
 
+/// What was found of a declarator without sizes and parameters: nothing.
 pub(crate) fn nothing_found(alloc: Global) -> Found {
     Found {
         whole: None,
@@ -99,7 +103,7 @@ pub(crate) fn nothing_found(alloc: Global) -> Found {
 }
 
 /// What is declared where everything that was found is of this table.
-pub(crate) fn made(
+pub(crate) fn declare(
     rt: &HostRuntime,
     types: &mut Types,
     specifiers: &Specifiers,
@@ -124,6 +128,7 @@ pub(crate) fn int_in(types: &mut Types) -> Result<Part, Fail> {
     })
 }
 
+/// The core of a declarator that is a name: the name number 7, in line 2.
 pub(crate) fn name() -> Core {
     Core::Name {
         span: span(2, 0),
@@ -156,13 +161,13 @@ fn const_beside_an_array_is_its_elements(rt: HostRuntime) -> Result<(), Fail> {
         INT,
         Some(SpecifierKind::Storage(Storage::Typedef)),
     )?;
-    let first = made(&rt, &mut types, &plain, &found, &array)?.map_err(|_| "no typedef")?;
+    let first = declare(&rt, &mut types, &plain, &found, &array)?.map_err(|_| "no typedef")?;
     assert_eq!(rt; first.said.storage, Some(Storage::Typedef));
     assert_eq!(rt; first.name, Some(7));
     found.whole = Some(Ok(first.ty));
     let qualified = specifiers(rt.alloc(), CONST, Some(SpecifierKind::TypedefName(3)))?;
     let object = declarator(rt.alloc(), false, name(), None, 0)?;
-    let second = made(&rt, &mut types, &qualified, &found, &object)?.map_err(|_| "no object")?;
+    let second = declare(&rt, &mut types, &qualified, &found, &object)?.map_err(|_| "no object")?;
     assert!(rt; second.ty.qualifiers.is_empty());
     let Some(Entry::OfType(CType::ArrayOf(elements))) = types.get(second.ty.number) else {
         return Err("no array".into());
@@ -213,7 +218,7 @@ fn the_first_rule_decides(rt: HostRuntime) -> Result<(), Fail> {
         ),
     ];
     for (name, list, found, line, rule) in rows {
-        let got = made(&rt, &mut types, list, found, &open)?;
+        let got = declare(&rt, &mut types, list, found, &open)?;
         assert_eq!(rt; got, Err(CheckFault::Rule { line, rule }), "{name}");
     }
     Ok(())

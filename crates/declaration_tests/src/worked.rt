@@ -1,6 +1,6 @@
 //! Types that declarators make, by hand, read from the name outwards.
 
-use crate::rules::{INT, declarator, int_in, made, name, nothing_found, span, specifiers};
+use crate::rules::{INT, declarator, declare, int_in, name, nothing_found, span, specifiers};
 use bitflags::Flags;
 use c_declarations::{knows_parameters, parameter_types};
 use c_declarators::ParameterType;
@@ -99,7 +99,7 @@ fn a_pointer_to_a_function_that_gives_one(rt: HostRuntime) -> Result<(), Fail> {
     found.known.parameters.insert(10, Ok(of_int))?;
     let star = declarator(alloc, true, Core::Nothing, None, 0)?;
     let callback = declarator(alloc, false, in_parens(alloc, star)?, call(alloc), 10)?;
-    let callback = made(&rt, &mut types, &word, &found, &callback)?.map_err(|_| "no callback")?;
+    let callback = declare(&rt, &mut types, &word, &found, &callback)?.map_err(|_| "no callback")?;
     let of_both = list_of(alloc, &mut types, &[callback.ty, int])?;
     let of_char = list_of(alloc, &mut types, &[char])?;
     found.known.parameters.insert(6, Ok(of_both))?;
@@ -107,7 +107,7 @@ fn a_pointer_to_a_function_that_gives_one(rt: HostRuntime) -> Result<(), Fail> {
     let fp = declarator(alloc, true, name(), None, 0)?;
     let inner = declarator(alloc, true, in_parens(alloc, fp)?, call(alloc), 6)?;
     let outer = declarator(alloc, false, in_parens(alloc, inner)?, call(alloc), 18)?;
-    let fp = made(&rt, &mut types, &word, &found, &outer)?.map_err(|_| "no fp")?;
+    let fp = declare(&rt, &mut types, &word, &found, &outer)?.map_err(|_| "no fp")?;
     let (above, base) = layers(alloc, &types, fp.ty)?;
     let wanted = [
         Layer::PointerTo,
@@ -141,14 +141,14 @@ fn arrays_of_arrays_and_pointers_to_them(rt: HostRuntime) -> Result<(), Fail> {
         let span = span(2, 9);
         table.suffixes.push(Suffix { span, kind })?;
     }
-    let table = made(&rt, &mut types, &word, &found, &table)?.map_err(|_| "no table")?;
+    let table = declare(&rt, &mut types, &word, &found, &table)?.map_err(|_| "no table")?;
     let (above, base) = layers(alloc, &types, table.ty)?;
     let wanted = [Layer::ArrayOf(2), Layer::ArrayOf(3)];
     assert_eq!(rt; above.as_slice(), wanted.as_slice());
     assert_eq!(rt; base, int.number);
     let row = declarator(alloc, true, name(), call(alloc), 5)?;
     let row = declarator(alloc, false, in_parens(alloc, row)?, size(), 9)?;
-    let row = made(&rt, &mut types, &word, &found, &row)?.map_err(|_| "no row")?;
+    let row = declare(&rt, &mut types, &word, &found, &row)?.map_err(|_| "no row")?;
     let (above, base) = layers(alloc, &types, row.ty)?;
     let wanted = [Layer::FunctionOf(none), Layer::PointerTo, Layer::ArrayOf(3)];
     assert_eq!(rt; above.as_slice(), wanted.as_slice());
@@ -175,7 +175,7 @@ fn no_function_gives_an_array_and_none_is_an_element(rt: HostRuntime) -> Result<
         ("int (a[3])(void);", &functions, Rule::IncompleteType),
     ];
     for (text, declarator, rule) in rows {
-        let got = made(&rt, &mut types, &word, &found, declarator)?;
+        let got = declare(&rt, &mut types, &word, &found, declarator)?;
         assert_eq!(rt; got, Err(CheckFault::Rule { line: 2, rule }), "{text}");
     }
     Ok(())

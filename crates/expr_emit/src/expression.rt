@@ -1,4 +1,7 @@
 //! The code of an expression: exactly what `expr_code` says. What is put first stands last.
+//!
+//! An expression has its value in t, and its operands in t and the registers after it, from left to right: registers
+//! are given out as a stack. So a node puts first what uses its operands, and then the operands, the last one first.
 
 ghost use Rattle.std.specs.Prelude.{◌≡◌, ◌+◌, IfOk, OnOk};
 ghost use Rattle.expr_gen.specs.Code.{expr_size, expr_code};

@@ -1,4 +1,7 @@
 //! The code of an operation on operands that are in their registers.
+//!
+//! Operand number i is in the register t + i, and what the operation gives comes into t; the registers from t + n
+//! on are free. Each case is a row of `operation_ops` in `expr_gen/specs/Operations.antt`, in the same order.
 
 ghost use Rattle.std.specs.Prelude.{OnOk};
 ghost use Rattle.expr_gen.specs.Code.{op_code, op_size};

@@ -1,4 +1,7 @@
 //! The code of `printf` on operands that are in their registers. What is put first stands last.
+//!
+//! The lock of the output is taken, each piece of the format puts out its bytes, and the lock is let go. A register
+//! adds up how many bytes the pieces had, which is what `printf` gives.
 
 ghost use Rattle.std.specs.Prelude.{◌≡◌, ◌+◌, [], ◌∷◌, ◌++◌, OnOk};
 ghost use Rattle.filc_num.specs.declared.integer.BinOp.TheVariants.{Add};

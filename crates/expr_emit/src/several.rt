@@ -1,4 +1,7 @@
-//! Operations of several instructions. What is put first stands last.
+//! Operations of several instructions: changes, updates, copies of structures and exchanges.
+//!
+//! Code is put before what is there, so what is put first stands last: the calls of `put` in a function are read from
+//! the last one to the first. What they jump forward to is there already.
 
 ghost use Rattle.std.specs.Prelude.{◌≡◌, ◌+◌, [], ◌∷◌, ◌++◌, OnOk};
 ghost use Rattle.c_tree.specs.declared.operation.Access.TheVariants.{Integer, Box};

@@ -1,4 +1,7 @@
 -- Worked code: of expressions at index 0, with two locals, so their values come into register 2.
+--
+-- The locals x and y, or p and q, are registers 0 and 1. Each row is an expression of C and its instructions, one after
+-- another, worked out by hand from what each instruction does (`docs/MACHINE.md`); operators and types have numbers.
 use Rattle.std.specs.Prelude.{◌≡◌, List, [], ◌∷◌, map, false, true, Some}
 use Rattle.filc_num.specs.declared.integer.BinOp.TheVariants.{Add, Sub, Mul, Lt}
 use Rattle.filc_num.specs.declared.integer.IntType.TheVariants.{I8, I32, U32}

@@ -1,4 +1,7 @@
 //! Each row is a call on files, sinks and a source in memory.
+//!
+//! A row has the words, the file `a.c`, and what must come: the ending, the bytes of standard output and the line on
+//! standard error. They were worked out by hand. Where devices fail, a row says at which of their calls.
 
 use filc_io::{FileFault, Files, MemFiles, MemSink, MemSource};
 use filc_num::Reason;

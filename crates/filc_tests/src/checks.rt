@@ -1,4 +1,7 @@
 //! `check FILE`: each kind of refusal, with its line, of the phases up to the tree.
+//!
+//! A row has a file and the text of its refusal as standard error has it, worked out by hand. The line is that of the
+//! exact token or directive. A file whose tokens spell a tree is `not built`.
 
 use filc_io::{MemFiles, MemSink, MemSource};
 use filc_top::{Ending, filc, status_of};

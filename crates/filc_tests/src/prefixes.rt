@@ -1,4 +1,7 @@
 //! Each prefix of a program that uses every statement: which refusal, at which line, at each token.
+//!
+//! What stands before the end of a file begins one. So a prefix is refused only at its end, as `syntax` at its last
+//! line, or it is a file itself. A grammar that lacked a production would refuse later prefixes at an earlier line.
 
 use crate::checks::{HAS_TREE, refusal};
 use std::alloc::Global;

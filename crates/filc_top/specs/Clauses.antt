@@ -1,4 +1,7 @@
 -- What the headline says of each ending by itself.
+--
+-- The headline goes from a cause to an ending; here each ending leads back to its cause. All of it follows from the
+-- headline, and says nothing more: it is for readers who ask what one status means. Read `SaysEnding` first.
 use Rattle.std.specs.Prelude.{◌≡◌, ◌⊎◌, ℕ, List, []}
 use Rattle.filc_io.specs.Counts.{HasRisen}
 use Rattle.filc_io.specs.Outside.{FilesState, Takes}

@@ -1,4 +1,8 @@
 -- What each step of a call hands to the next, or how it ends the call.
+--
+-- The steps are those of `src/call.rt`: the name, the front of the file, and then to run it a program and its run, to
+-- check it a tree. Each is a clause of its function, and the headline is made of them. `Ends..` says which endings a
+-- step may come to, and what is known then; want of memory says nothing.
 use Rattle.std.specs.Prelude.{◌≡◌, ◌⊎◌, ℕ, List, Ok, take}
 use Rattle.filc_io.specs.Counts.{HasRisen}
 use Rattle.filc_io.specs.Outside.{FilesState}

@@ -1,4 +1,7 @@
 //! Expressions: their trees, and the token that is refused.
+//!
+//! The contracts say that a tree is the one that the grammar spells; these rows say that the grammar means C. They were
+//! worked out by hand from C11 6.5. A tree is shown as its text, in which each node that holds others has its braces.
 
 ghost use Rattle.c_cursor.specs.Input.{Gives, answer};
 ghost use Rattle.c_syntax.specs.Grammar.{inner};

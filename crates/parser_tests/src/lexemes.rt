@@ -127,6 +127,7 @@ pub fn lexemes(alloc: Global, words: &[&str]) -> Result<Vec<Lexeme>, AllocError>
     Ok(tokens)
 }
 
+/// The End, which stands after the last word.
 pub fn end() -> Lexeme {
     Lexeme {
         terminal: Terminal::End,

@@ -1,4 +1,7 @@
 //! Each sentence of the rules, and the faults with their lines.
+//!
+//! The contract says that the tokens are those of the definition; these rows say that the definition means C. They were
+//! worked out by hand from C11 6.10. A file is shown as its expanded tokens, each with its line, or as its fault.
 
 use crate::shown::answer;
 use c_preproc::PreFault;

@@ -1,4 +1,7 @@
 //! The code of a statement: exactly what `stmt_code` says. What is put first stands last.
+//!
+//! Where a `break` and a `continue` go on is handed in (`Exits`), so no jump is patched later. The end of a loop, the
+//! other branch of a choice and the statements of a switch are put before the jumps to them, which know their index.
 
 ghost use Rattle.std.specs.Prelude.{◌≡◌, ◌-◌, ◌≤◌, ◌++◌, reverse, IfOk, OnOk};
 ghost use Rattle.stmt_gen.specs.Code.{local_ops, locals_code, return_size, return_code};

@@ -1,4 +1,7 @@
 -- The code of a function and of a program.
+--
+-- The locals of a function are its first registers, and its body begins at index 0. Where control comes to the end of
+-- the body, 0 is returned. Functions and static objects have the same numbers in the code as in the program.
 use Rattle.std.specs.Prelude.{List, [], ◌∷◌, ◌++◌, map}
 use Rattle.c_tree.specs.declared.program.FunctionDef.{FunctionDef}
 use Rattle.c_tree.specs.Plain.{PlainProgram}

@@ -1,5 +1,8 @@
 -- Worked code: of statements at index 0, with two locals, so their expressions have their values in register 2. A `break`
 -- goes on at 90, and a `continue` at 91.
+--
+-- The locals x and y are registers 0 and 1. Each row is a statement of C and its instructions, worked out by hand; a jump
+-- names the index of the instruction to which it leads.
 use Rattle.std.specs.Prelude.{◌≡◌, ℕ, List, [], ◌∷◌, map, false, Some, None}
 use Rattle.filc_num.specs.declared.integer.IntType.TheVariants.{I32}
 use Rattle.c_tree.specs.declared.operation.Access.TheVariants as access

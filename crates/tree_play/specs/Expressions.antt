@@ -1,5 +1,7 @@
 -- The play of expressions: operands from left to right, and then one operation on their values (the order that this C
 -- has; C11 6.5 leaves it open).
+--
+-- Only `&&`, `||` and `?:` leave operands out (C11 6.5.13 to 6.5.15). What an operation does with values is `apply`.
 use Rattle.std.specs.Prelude.{ℕ, List, [], ◌∷◌, Bool, true, false}
 use Rattle.c_tree.specs.declared.expr.Expr.{Expr, Apply', Chain', Logic', Choose', Print', Row_of-Expr, end_of-Expr, more_of-Expr, Row_of-Link, end_of-Link, more_of-Link}
 use Rattle.ideal_machine.specs.declared.value.Value.{Value}

@@ -1,4 +1,8 @@
 -- The play of statements. A statement gives its flow: how control goes on after it.
+--
+-- A flow is taken by what stands around: by the next statement, a loop or a switch, in four equations each.
+-- A loop has a bound on its rounds, and is cut where that is reached. Read `play_stmt` at the end first: it has an
+-- equation for each of the nine statements.
 use Rattle.std.specs.Prelude.{ℕ, zero, suc, List, [], ◌∷◌, ◌==◌, if◌then◌else◌, Option, Some, None}
 use Rattle.c_tree.specs.declared.expr.Expr.{Expr}
 use Rattle.c_tree.specs.declared.stmt.LocalDef.{LocalDef}

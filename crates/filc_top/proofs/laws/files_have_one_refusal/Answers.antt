@@ -1,3 +1,4 @@
+-- The law is proved in `Refusals.antt`, from the law that a list is refused once.
 use Rattle.filc_top.proofs.Refusals.{one_of_each}
 use Rattle.filc_top.proofs.laws.files_have_one_refusal.Goals as goal
 

@@ -1,3 +1,4 @@
+-- The law is proved in `Histories.antt`.
 use Rattle.tree_play.proofs.Histories.{beginnings_are_legal}
 use Rattle.tree_play.proofs.laws.beginnings_are_legal.Goals as goal
 

@@ -1,3 +1,4 @@
+-- Each clause is proved in `Depth.antt`.
 use Rattle.tree_play.proofs.Depth.{depth_is_reached, depth_is_passed}
 use Rattle.tree_play.proofs.laws.calls_have_a_depth.Goals as goal
 

@@ -1,3 +1,4 @@
+-- Each clause is proved in `Legality.antt`.
 use Rattle.tree_play.proofs.Legality.{exit_is_the_return, rounds_are_bounded, others_go_on, others_read_an_object, slots_are_used_again, freed_may_be_shown}
 use Rattle.tree_play.proofs.laws.histories_are_told_apart.Goals as goal
 
