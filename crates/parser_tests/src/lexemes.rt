@@ -98,7 +98,7 @@ pub fn name(word: &str) -> u32 {
 }
 
 /// The lexeme of a word, on line 1.
-pub fn lexeme(word: &str) -> Lexeme {
+fn lexeme(word: &str) -> Lexeme {
     Lexeme {
         terminal: terminal(word),
         name: name(word),
@@ -127,7 +127,16 @@ pub fn lexemes(alloc: Global, words: &[&str]) -> Result<Vec<Lexeme>, AllocError>
     Ok(tokens)
 }
 
-/// The End, which stands after the last word.
+/// The lexemes of a text's words, behind those that are there.
+pub fn push_words(tokens: &mut Vec<Lexeme>, text: &str) -> Result<(), AllocError> {
+    for word in text.split(' ') {
+        if !word.is_empty() {
+            tokens.push(lexeme(word))?;
+        }
+    }
+    Ok(())
+}
+
 pub fn end() -> Lexeme {
     Lexeme {
         terminal: Terminal::End,
