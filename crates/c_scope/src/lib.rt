@@ -13,6 +13,3 @@ mod space;
 pub use blocks::Declaration;
 pub use scopes::{Scope, Scopes, space_of};
 pub use space::{DeclareFault, Space, Unknown};
-
-#[cfg(test)]
-mod tests;
