@@ -14,4 +14,6 @@ pub use declaration::{
 };
 pub use fault::DeclarationFault;
 pub use parameters::{knows_parameters, parameter_types};
-pub use specifier_list::{Named, Specification, knows_whole, specification_of};
+pub use specifier_list::{
+    Named, Specification, Words, knows_whole, rule_of_words, specification_of, words_in,
+};

@@ -219,8 +219,8 @@ pub fn knows_whole(types: &Types, whole: Option<Result<Part, Rule>>) -> bool
     }
 }
 
-/// The words of a list of specifiers.
-fn words_in(
+/// The words of a list of specifiers, each where it is a good one.
+pub fn words_in(
     alloc: Global,
     standing: Standing,
     specifiers: &[Specifier],
@@ -237,8 +237,8 @@ fn words_in(
     })
 }
 
-/// The first of the rules that words break.
-fn rule_of_words(types: &Types, whole: Option<Result<Part, Rule>>, words: Words) -> Option<Rule>
+/// The first of the rules that words break, where a specifier that is a type by itself names this one.
+pub fn rule_of_words(types: &Types, whole: Option<Result<Part, Rule>>, words: Words) -> Option<Rule>
     ensures { result ≡ rule_of_words types.now whole words.storage words.named words.set }
 {
     lowest(

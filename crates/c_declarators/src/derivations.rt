@@ -33,7 +33,7 @@ fn suffix_derivation(known: &Known, suffix: &Suffix) -> Derivation
 }
 
 /// The derivation that a pointer is.
-fn pointer_derivation(pointer: &Pointer) -> Derivation
+pub fn pointer_derivation(pointer: &Pointer) -> Derivation
     ensures { result ≡ pointer_derivation pointer.now }
 {
     Derivation::Pointer(qualifiers_of(pointer.qualifiers.as_slice()))

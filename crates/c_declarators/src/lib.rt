@@ -9,10 +9,7 @@ mod known;
 mod outermost;
 mod parameters;
 
-pub use derivations::derivations_of;
+pub use derivations::{derivations_of, pointer_derivation};
 pub use known::Known;
 pub use outermost::{complete_outermost, ends_open};
 pub use parameters::{ParameterType, lowest_rule_of, says_none};
-
-#[cfg(test)]
-mod tests;

@@ -3,7 +3,7 @@ use Rattle.std.proofs.Common.{◌≡◌, ℕ, zero, suc, ◌-◌, ◌<◌, ◌�
 use Rattle.std.specs.Prelude.{slice_get}
 use Rattle.std.specs.Option.{option_or}
 use Rattle.std.specs.Str.{bytes_eq}
-use Rattle.std.proofs.lemmas.List.{reverse-append, reverse-reverse, length-reverse}
+use Rattle.std.proofs.lemmas.List.{map-append, reverse-append, reverse-reverse, length-reverse, take-append-drop, take_all}
 use Rattle.std.proofs.lemmas.Slice.Eq.{bytes_eq-Decides}
 use Rattle.std.proofs.Math.ListN.{length-drop}
 use Rattle.std.proofs.Math.Nat.{sub-zero}
@@ -340,10 +340,10 @@ first_start (start ∷ starts) = start
 
 innermost-blocks : (starts : List ℕ) (stack : List Declaration) → StartWithin (length stack) starts → innermost (blocks_of starts stack) ≡ map naming_of (take (length stack - first_start starts) stack)
 unfolding blocks_of
-innermost-blocks [] stack within = ap (map naming_of) (sym (take_all stack))
+innermost-blocks [] stack within = ap (map naming_of) (sym (all_taken stack))
   where
-    take_all : (xs : List Declaration) → take (length xs - 0) xs ≡ xs
-    take_all xs = rw sub-zero (take-length xs)
+    all_taken : (xs : List Declaration) → take (length xs - 0) xs ≡ xs
+    all_taken xs = rw sub-zero (take-length xs)
 innermost-blocks (start ∷ starts) stack within = refl
 
 first_within : (count : ℕ) (starts : List ℕ) → StartWithin count starts → first_start starts ≤ count
@@ -424,3 +424,35 @@ module _ (starts : List ℕ) (declarations : List Declaration) (known : List ℕ
   take_back_blocks rest gone =
       let t = taken_back (reverse starts) (reverse declarations) ok.within some in
       ap (blocks_of (reverse starts)) gone ∙ t.2
+
+-- ---- the innermost block
+
+take-front : {A : Type 0} (a b : List A) → take (length a) (a ++ b) ≡ a
+take-front [] b = refl
+take-front (x ∷ a) b = ap (λ xs. x ∷ xs) (take-front a b)
+
+-- what stands behind an index is the newest of a list
+take-newest : {A : Type 0} (start : ℕ) (xs : List A) → reverse (drop start xs) ≡ take (length xs - start) (reverse xs)
+take-newest start xs =
+    let size : length xs - start ≡ length (reverse (drop start xs)) = sym (length-reverse (drop start xs) ∙ length-drop start xs) in
+    let whole : reverse xs ≡ reverse (drop start xs) ++ reverse (take start xs) = ap reverse (sym (take-append-drop start xs)) ∙ reverse-append (take start xs) (drop start xs) in
+    sym (ap (λ n. take n (reverse xs)) size ∙ ap (take (length (reverse (drop start xs)))) whole ∙ take-front (reverse (drop start xs)) (reverse (take start xs)))
+
+module _ (known : List ℕ → Option ℕ) (declarations : List Declaration) (starts : List ℕ) (ok : IsStack known (reverse declarations) starts) (start : ℕ) (begins : start ≡ first_start starts) where
+  pub innermost_within : start ≤ length declarations
+  innermost_within = omega (arith, first_within (length (reverse declarations)) starts ok.within, length-reverse declarations)
+
+  pub innermost_is : map naming_of (reverse (drop start declarations)) ≡ innermost (blocks_of starts (reverse declarations))
+  innermost_is =
+      ap (map naming_of) (take-newest start declarations ∙ ap (λ n. take (n - start) (reverse declarations)) (sym (length-reverse declarations))
+      ∙ ap (λ n. take (length (reverse declarations) - n) (reverse declarations)) begins)
+      ∙ sym (innermost-blocks starts (reverse declarations) ok.within)
+
+-- ---- declarations that are copied
+
+map-reverse : {A B : Type 0} (f : A → B) (xs : List A) → map f (reverse xs) ≡ reverse (map f xs)
+map-reverse f [] = refl
+map-reverse f (x ∷ xs) = ap (map f) (reverse-cons x xs) ∙ map-append f (reverse xs) (x ∷ []) ∙ ap (λ ys. ys ++ f x ∷ []) (map-reverse f xs) ∙ sym (reverse-cons (f x) (map f xs))
+
+pub copied_all : (list ds : List Declaration) (i : ℕ) → length ds ≤ i → map naming_of list ≡ map naming_of (take i ds) → map naming_of (reverse list) ≡ map naming_of (reverse ds)
+copied_all list ds i past h = map-reverse naming_of list ∙ ap reverse (h ∙ ap (map naming_of) (take_all i ds past)) ∙ sym (map-reverse naming_of ds)

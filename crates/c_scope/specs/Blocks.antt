@@ -2,7 +2,7 @@
 --
 -- The innermost block stands first and the file's last. In a block the newest declaration stands first, so
 -- a declaration that follows another one of its name is the one that is found.
-use Rattle.std.specs.Prelude.{ℕ, List, [], ◌∷◌, Option, Some, None, if◌then◌else◌}
+use Rattle.std.specs.Prelude.{ℕ, List, [], ◌∷◌, ◌++◌, Option, Some, None, if◌then◌else◌}
 use Rattle.std.specs.Option.{option_or}
 use Rattle.std.specs.Str.{bytes_eq}
 use Rattle.c_tree.specs.declared.declared.Declared.{Declared}
@@ -36,6 +36,11 @@ outer_blocks (block ∷ outer) = outer
 abbrev pub with_declaration : Naming → List (List Naming) → List (List Naming)
 with_declaration d [] = (d ∷ []) ∷ []
 with_declaration d (block ∷ outer) = (d ∷ block) ∷ outer
+
+-- with further declarations in the innermost block, the newest of them first
+abbrev pub with_declarations : List Naming → List (List Naming) → List (List Naming)
+with_declarations ds [] = ds ∷ []
+with_declarations ds (block ∷ outer) = (ds ++ block) ∷ outer
 
 -- without the newest declaration of the innermost block
 abbrev pub without_newest : List (List Naming) → List (List Naming)

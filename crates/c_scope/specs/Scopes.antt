@@ -7,6 +7,7 @@ use Rattle.c_scope.specs.Again.{has_linkage, declared_as}
 use Rattle.std.specs.Prelude.{Option}
 use Rattle.c_tree.specs.declared.declared.Declared.{Declared}
 use Rattle.c_tree.specs.declared.declared.Declared.TheVariants.{Object, Function, Typedef, Constant, Tag as TagOf}
+pub use Rattle.c_scope.specs.Stacks.{naming_of}
 
 -- the blocks of each name space, the innermost first, and in `linked` each declaration with linkage, also
 -- of blocks that were left
@@ -14,6 +15,18 @@ pub record Names : Type 0 where
   pub ordinary : List (List Naming)
   pub tags : List (List Naming)
   pub linked : List (List Naming)
+
+-- what one scope declares, the newest first
+pub record InnerNames : Type 0 where
+  pub ordinary : List Naming
+  pub tags : List Naming
+
+abbrev pub innermost_scope : Names → InnerNames
+innermost_scope names = record { ordinary = innermost names.ordinary; tags = innermost names.tags }
+
+-- with a block that declares this
+abbrev pub with_scope : InnerNames → Names → Names
+with_scope inner names = record names { ordinary = inner.ordinary ∷ names.ordinary; tags = inner.tags ∷ names.tags }
 
 abbrev pub blocks_in : Space → Names → List (List Naming)
 blocks_in Ordinary names = names.ordinary

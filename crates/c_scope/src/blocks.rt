@@ -5,7 +5,7 @@
 //! left, it is popped, and its name leads to the declaration that it hid. So a look-up and a declaration
 //! search one tree, and leaving a block takes the time of the declarations in it.
 
-ghost use Rattle.std.specs.Prelude.{◌≡◌, ◌-◌, ◌<◌, ◌≤◌, IsSome, reverse, drop, vec_len};
+ghost use Rattle.std.specs.Prelude.{◌≡◌, ◌-◌, ◌<◌, ◌≤◌, IsSome, reverse, drop, length, vec_len};
 ghost use Rattle.std.specs.BTreeMap.{get_by};
 ghost use Rattle.std.specs.Cmp.Lexicographic.{slice_cmp};
 ghost use Rattle.std.specs.Ordering.{nat_cmp};
@@ -52,9 +52,10 @@ impl Model for Blocks {
 }
 
 impl Blocks {
-    ghost use Rattle.std.specs.Prelude.{◌≡◌, ◌<◌, [], ◌∷◌, length, OnOk, OnErr};
+    ghost use Rattle.std.specs.Prelude.{◌≡◌, ◌<◌, [], ◌∷◌, length, map, reverse, OnOk, OnErr};
     ghost use Rattle.std.specs.Option.{option_copied};
     ghost use Rattle.c_scope.specs.Blocks.{declared_in, visible, innermost, outer_blocks, with_declaration, without_newest};
+    ghost use Rattle.c_scope.specs.Stacks.{naming_of};
 
     /// The file's block alone, without declarations.
     pub fn new(alloc: Global) -> Blocks
@@ -86,6 +87,14 @@ impl Blocks {
             return None;
         }
         Some(&self.declarations[index].what)
+    }
+
+    /// The declarations of the innermost block, the oldest first.
+    pub fn innermost(&self) -> &[Declaration]
+        ensures { map naming_of (reverse result.now) ≡ innermost self.now }
+    {
+        let start = self.starts.last().copied().unwrap_or(0);
+        behind(&self.declarations, start)
     }
 
     /// Opens a block.
@@ -135,6 +144,14 @@ impl Blocks {
         }
         Ok(())
     }
+}
+
+/// The declarations from this index on.
+fn behind(declarations: &[Declaration], start: usize) -> &[Declaration]
+    requires { start ≤ length declarations.now }
+    ensures { result.now ≡ drop start declarations.now }
+{
+    &declarations[start..]
 }
 
 /// The index of the newest declaration of a name.

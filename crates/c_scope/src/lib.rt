@@ -10,8 +10,6 @@ pub mod laws;
 mod scopes;
 mod space;
 
-pub use scopes::{Scopes, space_of};
+pub use blocks::Declaration;
+pub use scopes::{Scope, Scopes, space_of};
 pub use space::{DeclareFault, Space, Unknown};
-
-#[cfg(test)]
-mod tests;

@@ -1,11 +1,12 @@
 //! The scopes of a file: two name spaces, blocks, and the names with linkage.
 
-ghost use Rattle.std.specs.Prelude.{◌≡◌, ◌<◌, length, OnOk, IfErr};
-ghost use Rattle.c_scope.specs.Blocks.{with_declaration};
+ghost use Rattle.std.specs.Prelude.{◌≡◌, ◌<◌, length, map, reverse, OnOk, IfOk, IfErr};
+ghost use Rattle.c_scope.specs.Blocks.{with_declaration, with_declarations};
 ghost use Rattle.c_scope.specs.Scopes.{with_linked, space_of};
+ghost use Rattle.c_scope.specs.Stacks.{naming_of};
 
 use crate::again::{declaration, has_its_linkage};
-use crate::blocks::Blocks;
+use crate::blocks::{Blocks, Declaration};
 use crate::space::{DeclareFault, Space, Unknown};
 use c_tree::Declared;
 use std::alloc::{AllocError, Global};
@@ -31,11 +32,29 @@ impl Model for Scopes {
     ghost invariant = { λ s. IsPaired s.ordinary s.tags };
 }
 
+/// What one scope declares, the oldest first. Contracts see it with the newest first.
+#[derive(Drop)]
+pub struct Scope {
+    ordinary: Vec<Declaration>,
+    tags: Vec<Declaration>,
+}
+
+impl Model for Scope {
+    ghost use Rattle.std.specs.Prelude.{map, reverse};
+    ghost use Rattle.c_scope.specs.Scopes.{InnerNames};
+    ghost use Rattle.c_scope.specs.Stacks.{naming_of};
+
+    ghost Value = { InnerNames };
+
+    ghost view = { λ s. record { ordinary = map naming_of (reverse s.ordinary.items); tags = map naming_of (reverse s.tags.items) } };
+}
+
 impl Scopes {
-    ghost use Rattle.std.specs.Prelude.{◌≡◌, ◌<◌, length, Some, None, Ok, Err, IfOk, OnOk, OnErr, IsSomeAnd};
+    ghost use Rattle.std.specs.Prelude.{◌≡◌, ◌<◌, length, map, reverse, Some, None, Ok, Err, IfOk, OnOk, OnErr, IsSomeAnd};
     ghost use Rattle.std.specs.Option.{option_copied};
     ghost use Rattle.c_scope.specs.Blocks.{visible, declared_in, innermost};
-    ghost use Rattle.c_scope.specs.Scopes.{no_names, with_block, without_block, blocks_in, declaration_in, with_name, space_of};
+    ghost use Rattle.c_scope.specs.Scopes.{no_names, with_block, without_block, with_scope, innermost_scope, blocks_in, declaration_in, with_name, space_of};
+    ghost use Rattle.c_scope.specs.Stacks.{naming_of};
 
     /// The file's scope, without names.
     pub fn new(alloc: Global) -> Result<Scopes, AllocError>
@@ -68,6 +87,45 @@ impl Scopes {
     {
         self.ordinary.leave();
         self.tags.leave();
+    }
+
+    /// Closes the innermost block, which isn't the file's, and gives what it declared.
+    pub fn leave_with(&mut self, alloc: Global) -> Result<Scope, AllocError>
+        requires { 1 < length self.old.ordinary }
+        ensures scope { IfOk result (λ scope. scope ≡ innermost_scope self.old) }
+        ensures ok { OnOk result (self.new ≡ without_block self.old) }
+        ensures err { OnErr result (self.new ≡ self.old) }
+    {
+        let scope = Scope {
+            ordinary: copy_of(alloc, self.ordinary.innermost())?,
+            tags: copy_of(alloc, self.tags.innermost())?,
+        };
+        self.leave();
+        Ok(scope)
+    }
+
+    /// Opens a block that declares what this scope declares. A refusal leaves a block open that declares
+    /// some of it.
+    pub fn enter_with(&mut self, scope: &Scope) -> Result<(), AllocError>
+        ensures { OnOk result (self.new ≡ with_scope scope.now self.old) }
+    {
+        self.enter()?;
+        declare_each(&mut self.ordinary, &scope.ordinary)?;
+        declare_each(&mut self.tags, &scope.tags)
+    }
+
+    /// What the declarations of a name with linkage have declared, also those of blocks that were left.
+    pub fn look_up_linked(&self, name: &[u8]) -> Option<&Declared>
+        ensures { option_copied result ≡ visible name.now self.now.linked }
+    {
+        self.linked.find(name)
+    }
+
+    /// The declarations with linkage, the oldest first, also those of blocks that were left.
+    pub fn linked(&self) -> &[Declaration]
+        ensures { map naming_of (reverse result.now) ≡ innermost self.now.linked }
+    {
+        self.linked.innermost()
     }
 
     /// What a name stands for, as the innermost block that declares it has it.
@@ -151,6 +209,36 @@ fn declare_linked(
     if has_its_linkage(declared) && linked.declare(name, declared).is_err() {
         blocks.take_back();
         return Err(DeclareFault::NoMemory);
+    }
+    Ok(())
+}
+
+/// A copy of declarations.
+fn copy_of(alloc: Global, declarations: &[Declaration]) -> Result<Vec<Declaration>, AllocError>
+    ensures { IfOk result
+        (λ list. map naming_of (reverse list.items) ≡ map naming_of (reverse declarations.now)) }
+{
+    let mut list = Vec::new(alloc);
+    for declaration in declarations {
+        let name = Vec::from_slice(alloc, declaration.name.as_slice())?;
+        list.push(Declaration {
+            name,
+            what: declaration.what,
+            hidden: None,
+        })?;
+    }
+    Ok(list)
+}
+
+/// Declares these in the innermost block, the oldest first.
+fn declare_each(blocks: &mut Blocks, declarations: &[Declaration]) -> Result<(), AllocError>
+    requires { 0 < length blocks.old }
+    ensures ok { OnOk result (blocks.new
+        ≡ with_declarations (map naming_of (reverse declarations.now)) blocks.old) }
+    ensures length { length blocks.new ≡ length blocks.old }
+{
+    for declaration in declarations {
+        blocks.declare(declaration.name.as_slice(), declaration.what)?;
     }
     Ok(())
 }

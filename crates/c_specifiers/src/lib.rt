@@ -18,6 +18,3 @@ pub use list::{
 pub use name::type_named;
 pub use names::{NameFault, tag_type, typedef_type};
 pub use qualifiers::qualifiers_of;
-
-#[cfg(test)]
-mod tests;

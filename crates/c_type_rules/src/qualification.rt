@@ -1,10 +1,11 @@
 //! Types with further qualifiers.
 
-ghost use Rattle.std.specs.Prelude.{◌≡◌, reverse, Some, None, IfOk, IfNone, IfSome};
+ghost use Rattle.std.specs.Prelude.{◌≡◌, length, reverse, Some, None, IfOk, OnOk, IfNone, IfSome};
 ghost use Rattle.c_types.specs.declared.ctype.CType.TheVariants.{ArrayOf};
 ghost use Rattle.c_types.specs.declared.entry.Entry.TheVariants.{OfType};
 ghost use Rattle.c_types.specs.Derivations.{IsCause};
 ghost use Rattle.c_types.specs.Declarators.{Keeps, type_in};
+ghost use Rattle.c_types.specs.Extensions.{qualified_as, type_of_part};
 ghost use Rattle.c_types.specs.Whole.{IsTypeAt, IsPart, EntryFits};
 ghost use Rattle.c_type_rules.specs.Qualified.{IsQualified, IsElement, element_with};
 
@@ -90,6 +91,10 @@ pub fn qualify(
 ) -> Result<Part, AllocError>
     requires { IsPart types.old part }
     ensures qualified { IfOk result (IsQualified types.new part set) }
+    ensures gives { IfOk result (λ made. made ≡ (qualified_as (length types.old)
+        types.old part set.0 (type_of_part types.old part)).1) }
+    ensures grown { OnOk result (types.new ≡ (qualified_as (length types.old)
+        types.old part set.0 (type_of_part types.old part)).0) }
     ensures part { IfOk result (IsPart types.new) }
     ensures kept { Keeps types.old types.new }
 {

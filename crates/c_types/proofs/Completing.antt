@@ -1,5 +1,5 @@
 -- A structure that gets its contents keeps what was derived.
-use Rattle.std.proofs.Common.{◌≡◌, ℕ, List, [], ◌∷◌, Some, refl, subst, IsTrue}
+use Rattle.std.proofs.Common.{◌≡◌, ℕ, List, [], ◌∷◌, Some, refl, IsTrue}
 use Rattle.std.specs.Prelude.{slice_get}
 use Rattle.c_types.specs.declared.ctype.CType.TheVariants.{Pointer, ArrayOf, Function}
 use Rattle.c_types.specs.declared.ctype.Part.{Part}

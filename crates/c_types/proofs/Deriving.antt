@@ -22,7 +22,9 @@ use Rattle.c_types.specs.Sizes.{Room}
 use Rattle.c_types.specs.Derivations.{Shape, shape_of, shape_after, rule_of, lower, lowest, lowest_rule, IsCause}
 use Rattle.c_types.specs.Declarators.{IsTypeEntry, type_of_entry, shape_of_any, shape_at, Keeps, Makes, IsDerived, IsParameterList}
 use Rattle.c_types.specs.LayoutLaws.{room_size, room_align}
+use Rattle.c_types.specs.Extensions.{derived_once, derived_each}
 use Rattle.c_types.proofs.Orders.{array_by_parts}
+use Rattle.c_types.proofs.Extending.{each_next}
 use Rattle.c_types.specs.Whole.{IsListEntry, IsListAt, IsPartOf, IsPart, DerivationFits}
 use Rattle.c_types.proofs.Numberings.{slice_get-push_before}
 use Rattle.c_types.proofs.Whole.{Stays, Keeps-stays, part_is_type}
@@ -169,15 +171,16 @@ pub record IsDeriving (first now : List Entry) (base part : Part) (ds left : Lis
   pub there : IsPart now part
   pub lists : All (DerivationFits now) left
   pub fine : lowest_rule (shape_at now part.number) None left ≡ None
+  pub each : derived_each first base ds ≡ derived_each now part left
   pub so_far : (table : List Entry) (made : Part) → Keeps now table → IsDerived table part left made → IsDerived table base ds made
 
 pub derive-starts : (first : List Entry) (base : Part) (ds : List Derivation) → IsPart first base → All (DerivationFits first) ds → lowest_rule (shape_at first base.number) None ds ≡ None → IsDeriving first first base base ds ds
-derive-starts first base ds there lists fine = record { kept = λ n e at. at; there = there; lists = lists; fine = fine; so_far = λ table made k h. h }
+derive-starts first base ds there lists fine = record { kept = λ n e at. at; there = there; lists = lists; fine = fine; each = refl; so_far = λ table made k h. h }
 
 module _ (first now new : List Entry) (base part next : Part) (ds rest : List Derivation) (d : Derivation) (ok : IsDeriving first now base part ds (d ∷ rest)) where
-  pub derive-step : Keeps now new → rule_of (shape_at now part.number) d ≡ None → Makes new part d next → IsDeriving first new base next ds rest
+  pub derive-step : Keeps now new → rule_of (shape_at now part.number) d ≡ None → Makes new part d next → new ≡ (derived_once now part d).0 → next ≡ (derived_once now part d).1 → IsDeriving first new base next ds rest
   unfolding IsDerived
-  derive-step k f makes =
+  derive-step k f makes grown gives =
       let shape : shape_at new next.number ≡ shape_after (shape_at now part.number) d =
       Makes-shape new part d next makes ∙ ap (λ s. shape_after s d) (shape_at-keeps now new part.number k (part_is_type now part ok.there)) in
       record {
@@ -185,6 +188,7 @@ module _ (first now new : List Entry) (base part next : Part) (ds rest : List De
         there = Makes-part new part d next makes;
         lists = All-keeps now new rest (Keeps-stays now new k) (All-tail (DerivationFits now) d rest ok.lists);
         fine = ap (λ s. lowest_rule s None rest) shape ∙ fine_next (shape_at now part.number) d rest ok.fine f;
+        each = ok.each ∙ each_next now new part next d rest grown gives;
         so_far = λ table made l h. ok.so_far table made (Keeps-trans now new table k l) (next, Makes-keeps new table part d next l makes, h);
       }
 

@@ -6,3 +6,5 @@ pub mod Numberings
 pub mod Deriving
 pub mod Whole
 pub mod Completing
+pub mod Extending
+pub mod Guards

@@ -117,7 +117,7 @@ type_within t n h = some_within t n (slice_get t n) refl (λ e. subst (λ (o : O
 list_within : (t : List Entry) (n : ℕ) → IsListAt t n → n < length t
 list_within t n h = some_within t n (slice_get t n) refl (λ e. subst (λ (o : Option Entry). IsSomeAnd o IsListEntry) e h)
 
-part_within : (t : List Entry) (p : Part) → IsPart t p → p.number < length t
+pub part_within : (t : List Entry) (p : Part) → IsPart t p → p.number < length t
 part_within t p h = some_within t p.number (slice_get t p.number) refl (λ e. subst (λ (o : Option Entry). IsPartOf o p.qualifiers.0) e h)
 
 named_before : (t : List Entry) (e : Entry) → EntryFits t e → NamesBefore (length t) e

@@ -9,3 +9,4 @@ pub mod Tables
 pub mod Derivations
 pub mod Declarators
 pub mod Whole
+pub mod Extensions

@@ -1,6 +1,7 @@
 //! What a declarator's parts make of a type, and which of them are allowed.
 
 ghost use Rattle.std.specs.Prelude.{◌≡◌, None};
+ghost use Rattle.c_types.specs.Declarators.{shape_of_any};
 ghost use Rattle.c_types.specs.Sizes.{room_in, room_of};
 ghost use Rattle.c_types.specs.Derivations.{shape_in, shape_of, may_be_result, shape_after, rule_of, rule_of_elements, rule_of_result, lowest, lowest_rule, room_of_elements, known_room_in, known_room_of_elements};
 
@@ -47,6 +48,16 @@ impl Shape {
                 CType::ArrayOf(_) | CType::Function(_) | CType::Structure(..) | CType::Union(..) =>
                     false,
             },
+        }
+    }
+
+    /// The shape of what is no type: nothing may follow it but a pointer.
+    pub fn of_nothing() -> Shape
+        ensures { shape_in result ≡ shape_of_any None }
+    {
+        Shape {
+            extent: Some(Err(TypeFault::Incomplete)),
+            may_be_result: false,
         }
     }
 

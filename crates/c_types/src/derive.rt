@@ -19,6 +19,7 @@ impl Types {
     ghost use Rattle.std.specs.Prelude.{◌≡◌, ◌≢◌, ℕ, Some, None, All, IfOk, IfErr, IsSomeAnd, OnOk, OnErr, slice_get};
     ghost use Rattle.c_types.specs.Derivations.{rule_of, lowest_rule, IsCause};
     ghost use Rattle.c_types.specs.declared.entry.Entry.TheVariants.{OfType};
+    ghost use Rattle.c_types.specs.Extensions.{type_of_part, derived_once, derived_each, list_from, adjusted_as};
     ghost use Rattle.c_types.specs.Whole.{IsTypeAt, IsListAt, IsPart, DerivationFits, EntryFits};
     ghost use Rattle.c_types.specs.Declarators.{IsTypeEntry, Keeps, GrowsByOne, Makes, IsDerived, IsParameterList, IsAdjusted, shape_at, type_of_entry};
 
@@ -40,6 +41,8 @@ impl Types {
         requires part { IsPart self.old of }
         requires list { DerivationFits self.old derivation }
         ensures made { IfOk result (λ made. Makes self.new of derivation made) }
+        ensures gives { IfOk result (λ made. made ≡ (derived_once self.old of derivation).1) }
+        ensures grown { OnOk result (self.new ≡ (derived_once self.old of derivation).0) }
         ensures part { IfOk result (IsPart self.new) }
         ensures fine { OnOk result (rule_of (shape_at self.old of.number) derivation ≡ None) }
         ensures fault { IfErr result (IsCause (rule_of (shape_at self.old of.number) derivation)) }
@@ -89,6 +92,10 @@ impl Types {
         requires part { IsPart self.old base }
         requires lists { All (DerivationFits self.old) derivations.now }
         ensures made { IfOk result (λ made. IsDerived self.new base derivations.now made) }
+        ensures gives { IfOk result (λ made.
+            made ≡ (derived_each self.old base derivations.now).1) }
+        ensures grown { OnOk result
+            (self.new ≡ (derived_each self.old base derivations.now).0) }
         ensures part { IfOk result (IsPart self.new) }
         ensures fine { OnOk result
             (lowest_rule (shape_at self.old base.number) None derivations.now ≡ None) }
@@ -114,6 +121,8 @@ impl Types {
     pub fn parameter_list(&mut self, types: &[u32]) -> Result<u32, AllocError>
         requires { All (IsTypeAt self.old) types.now }
         ensures list { IfOk result (λ n. IsParameterList self.new types.now n) }
+        ensures gives { IfOk result (λ n. n ≡ (list_from self.old types.now).1) }
+        ensures grown { OnOk result (self.new ≡ (list_from self.old types.now).0) }
         ensures number { IfOk result (IsListAt self.new) }
         ensures kept { Keeps self.old self.new }
     {
@@ -129,6 +138,10 @@ impl Types {
     pub fn adjust(&mut self, parameter: Part) -> Result<Part, AllocError>
         requires { IsPart self.old parameter }
         ensures adjusted { IfOk result (λ made. IsAdjusted self.old self.new parameter made) }
+        ensures gives { IfOk result (λ made. made
+            ≡ (adjusted_as self.old parameter (type_of_part self.old parameter)).1) }
+        ensures grown { OnOk result (self.new
+            ≡ (adjusted_as self.old parameter (type_of_part self.old parameter)).0) }
         ensures part { IfOk result (IsPart self.new) }
         ensures kept { Keeps self.old self.new }
         ensures table { GrowsByOne self.old self.new }

@@ -19,7 +19,7 @@ mod table;
 pub use ctype::{
     Array, CType, ElementCount, Extent, MOST_OBJECT_BYTES, Part, Signature, TypeFault,
 };
-pub use derivation::{Derivation, Shape, lowest_of};
+pub use derivation::{Derivation, Shape, lowest_of, lowest_rule_of};
 pub use entry::{Entry, Tag};
 pub use layouts::{Form, Layout, LayoutFault};
 pub use members::{layout, union_layout};
@@ -27,8 +27,3 @@ pub use qualifier_set::Qualifiers;
 pub use rule::{DeriveFault, TypeRule};
 pub use sizes::{align_of, extent_of, size_of};
 pub use table::Types;
-
-#[cfg(test)]
-mod declarator_tests;
-#[cfg(test)]
-mod tests;

@@ -36,12 +36,14 @@ impl Model for Types {
 }
 
 impl Types {
-    ghost use Rattle.std.specs.Prelude.{◌≡◌, ◌⊎◌, ◌↔◌, ℕ, [], ◌++◌, ◌∷◌, ◌==◌, length, slice_get, slice_set, All, IfOk, IfSome, OnErr, IsTrue};
+    ghost use Rattle.std.specs.Prelude.{◌≡◌, ◌⊎◌, ◌↔◌, ℕ, [], ◌++◌, ◌∷◌, ◌==◌, length, slice_get, slice_set, All, IfOk, IfSome, OnOk, OnErr, IsTrue};
     ghost use Rattle.c_types.specs.declared.entry.Entry.{Entry};
     ghost use Rattle.c_types.specs.declared.entry.Entry.TheVariants.{OfType};
     ghost use Rattle.c_types.specs.declared.ctype.CType.TheVariants.{Void, Integer};
     ghost use Rattle.c_types.specs.Tables.{is_derived, tag_type};
     ghost use Rattle.c_types.specs.Declarators.{Keeps};
+    ghost use Rattle.std.specs.List.{list_all};
+    ghost use Rattle.c_types.specs.Extensions.{with_entry, new_tag_type, is_part, is_type_entry, is_list_entry, knows_list};
     ghost use Rattle.c_types.specs.Whole.{IsPart, IsTypeAt, IsListAt, DerivationFits, EntryFits, IsWhole};
 
     /// A table without types.
@@ -82,7 +84,8 @@ impl Types {
 
     /// Whether a part is one of this table, in its one form.
     pub fn is_part(&self, part: Part) -> bool
-        ensures { IsTrue result ↔ IsPart self.now part }
+        ensures there { IsTrue result ↔ IsPart self.now part }
+        ensures value { result ≡ is_part self.now part }
     {
         match self.get(part.number) {
             Some(Entry::OfType(CType::ArrayOf(_) | CType::Function(_))) => {
@@ -95,14 +98,16 @@ impl Types {
 
     /// Whether numbers are those of types.
     pub fn are_types(&self, numbers: &[u32]) -> bool
-        ensures { IsTrue result ↔ All (IsTypeAt self.now) numbers.now }
+        ensures there { IsTrue result ↔ All (IsTypeAt self.now) numbers.now }
+        ensures value { result ≡ list_all (λ n. is_type_entry (slice_get self.now n)) numbers.now }
     {
         numbers.iter().all(|number| self.is_type(*number))
     }
 
     /// Whether a number is that of a type.
     pub fn is_type(&self, number: u32) -> bool
-        ensures { IsTrue result ↔ IsTypeAt self.now number }
+        ensures there { IsTrue result ↔ IsTypeAt self.now number }
+        ensures value { result ≡ is_type_entry (slice_get self.now number) }
     {
         match self.get(number) {
             Some(Entry::OfType(_)) => true,
@@ -112,7 +117,8 @@ impl Types {
 
     /// Whether a number is that of a list of parameters.
     pub fn is_list(&self, number: u32) -> bool
-        ensures { IsTrue result ↔ IsListAt self.now number }
+        ensures there { IsTrue result ↔ IsListAt self.now number }
+        ensures value { result ≡ is_list_entry (slice_get self.now number) }
     {
         match self.get(number) {
             Some(Entry::NoParameters | Entry::Parameters(..)) => true,
@@ -122,7 +128,8 @@ impl Types {
 
     /// Whether the list of parameters that a derivation names, if it does, is one of this table.
     pub fn knows_list_of(&self, derivation: Derivation) -> bool
-        ensures { IsTrue result ↔ DerivationFits self.now derivation }
+        ensures there { IsTrue result ↔ DerivationFits self.now derivation }
+        ensures value { result ≡ knows_list self.now derivation }
     {
         match derivation {
             Derivation::Function { parameters, .. } => self.is_list(parameters),
@@ -136,7 +143,8 @@ impl Types {
 
     /// Whether the lists of parameters that derivations name are this table's.
     pub fn knows_lists_of(&self, derivations: &[Derivation]) -> bool
-        ensures { IsTrue result ↔ All (DerivationFits self.now) derivations.now }
+        ensures there { IsTrue result ↔ All (DerivationFits self.now) derivations.now }
+        ensures value { result ≡ list_all (knows_list self.now) derivations.now }
     {
         derivations.iter().all(|d| self.knows_list_of(*d))
     }
@@ -144,6 +152,8 @@ impl Types {
     /// The number of void.
     pub fn void_type(&mut self) -> Result<u32, AllocError>
         ensures number { IfOk result (λ n. slice_get self.new n ≡ Some (OfType Void)) }
+        ensures gives { IfOk result (λ n. n ≡ (with_entry self.old (OfType Void)).1) }
+        ensures grown { OnOk result (self.new ≡ (with_entry self.old (OfType Void)).0) }
         ensures kept { Keeps self.old self.new }
         ensures err { OnErr result (self.new ≡ self.old) }
     {
@@ -153,6 +163,8 @@ impl Types {
     /// The number of an integer type.
     pub fn integer_type(&mut self, kind: CIntType) -> Result<u32, AllocError>
         ensures number { IfOk result (λ n. slice_get self.new n ≡ Some (OfType (Integer kind))) }
+        ensures gives { IfOk result (λ n. n ≡ (with_entry self.old (OfType (Integer kind))).1) }
+        ensures grown { OnOk result (self.new ≡ (with_entry self.old (OfType (Integer kind))).0) }
         ensures kept { Keeps self.old self.new }
         ensures err { OnErr result (self.new ≡ self.old) }
     {
@@ -166,6 +178,8 @@ impl Types {
         requires fits { EntryFits self.old entry }
         ensures number { IfOk result (λ n. slice_get self.new n ≡ Some entry) }
         ensures table { (self.new ≡ self.old) ⊎ (self.new ≡ self.old ++ entry ∷ []) }
+        ensures gives { IfOk result (λ n. n ≡ (with_entry self.old entry).1) }
+        ensures grown { OnOk result (self.new ≡ (with_entry self.old entry).0) }
         ensures kept { Keeps self.old self.new }
         ensures err { OnErr result (self.new ≡ self.old) }
     {
@@ -191,6 +205,7 @@ impl Types {
         ensures number { IfOk result (λ n. n ≡ length self.old) }
         ensures entry { IfOk result (λ n.
             self.new ≡ self.old ++ OfType (tag_type tag n None) ∷ []) }
+        ensures grown { OnOk result (self.new ≡ (new_tag_type self.old tag).0) }
         ensures err { OnErr result (self.new ≡ self.old) }
     {
         let Ok(number) = u32::try_from(self.entries.len()) else {

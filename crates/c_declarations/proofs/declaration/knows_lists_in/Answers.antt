@@ -7,4 +7,4 @@ use Rattle.c_declarations.proofs.declaration.knows_lists_in.Goals as goal
 
 pub returns : goal.returns
 returns c =
-    subst (λ (ds : List Derivation). IsTrue c.knows_lists_of.result ↔ All (DerivationFits c.args.types.now) ds) (c.as_slice.ensures.value ∙ c.in_ok-derivations.ensures) c.knows_lists_of.ensures
+    subst (λ (ds : List Derivation). IsTrue c.knows_lists_of.result ↔ All (DerivationFits c.args.types.now) ds) (c.as_slice.ensures.value ∙ c.in_ok-derivations.ensures) c.knows_lists_of.ensures.there

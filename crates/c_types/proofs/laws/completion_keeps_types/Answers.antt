@@ -1,4 +1,4 @@
-use Rattle.std.proofs.Common.{None, Some}
+use Rattle.std.proofs.Common.{Some}
 use Rattle.std.specs.Prelude.{slice_set}
 use Rattle.c_types.specs.declared.entry.Entry.TheVariants.{OfType}
 use Rattle.c_types.specs.Tables.{tag_type}

@@ -7,6 +7,7 @@ use Rattle.c_types.specs.declared.entry.Entry.{Entry}
 use Rattle.c_types.specs.contracts.entry.EntryOrd.TheImpl as EntryOrder
 use Rattle.c_types.specs.Tables.{IsNumbered}
 use Rattle.c_types.specs.Whole.{EntryFits, IsWhole}
+use Rattle.c_types.proofs.Extending.{known_number, known_table, new_number, new_table}
 use Rattle.c_types.proofs.Whole.{IsWhole-push, IsWhole-same}
 use Rattle.c_types.proofs.Numberings.{slice_get-push_at, IsNumbered-push, IsNumbered-same, on_ok, on_err}
 use Rattle.c_types.proofs.table.Types.number_of.Goals as goal
@@ -51,3 +52,27 @@ pub returns-clause-table : goal.returns-clause-table
 returns-clause-table c =
     let pushed : c.push.new.self.items ≡ c.self.inside.entries.items ++ c.args.entry ∷ [] = grind (arith, common_steps, c.push.ensures.items) in
     inr (pushed ∙ ap (λ (xs : List Entry). xs ++ c.args.entry ∷ []) c.self.view_is)
+
+-- ---- which table and number it is
+
+pub returns-in-Some-clause-gives : goal.returns-in-Some-clause-gives
+returns-in-Some-clause-gives c =
+    let h : get (EntryOrder.ghosts).cmp c.self.inside.numbers c.args.entry ≡ Some c.in-Some.number = sym c.get.ensures.value ∙ sym c.copied.ensures ∙ c.in-Some.is in
+    known_number c.self.inside.entries.items c.self.inside.numbers c.self.invariant.numbered c.args.entry c.args.self.now c.self.view_is c.in-Some.number h
+
+pub returns-in-Some-clause-grown : goal.returns-in-Some-clause-grown
+returns-in-Some-clause-grown c =
+    let h : get (EntryOrder.ghosts).cmp c.self.inside.numbers c.args.entry ≡ Some c.in-Some.number = sym c.get.ensures.value ∙ sym c.copied.ensures ∙ c.in-Some.is in
+    known_table c.self.inside.entries.items c.self.inside.numbers c.self.invariant.numbered c.args.entry c.args.self.now c.self.view_is c.in-Some.number h
+
+pub returns-clause-gives : goal.returns-clause-gives
+returns-clause-gives c =
+    let number : c.in-Ok.number ≡ length c.self.inside.entries.items = c.in-Ok.ensures.1 ∙ c.len.ensures ∙ search rules in
+    let absent : get (EntryOrder.ghosts).cmp c.self.inside.numbers c.args.entry ≡ None = sym c.get.ensures.value ∙ sym c.copied.ensures ∙ c.in_default.is in
+    new_number c.self.inside.entries.items c.self.inside.numbers c.self.invariant.numbered c.args.entry c.args.self.now c.self.view_is c.in-Ok.number number c.requires.derived absent
+
+pub returns-clause-grown : goal.returns-clause-grown
+returns-clause-grown c =
+    let pushed : c.push.new.self.items ≡ c.self.inside.entries.items ++ c.args.entry ∷ [] = grind (arith, common_steps, c.push.ensures.items) in
+    let absent : get (EntryOrder.ghosts).cmp c.self.inside.numbers c.args.entry ≡ None = sym c.get.ensures.value ∙ sym c.copied.ensures ∙ c.in_default.is in
+    new_table c.self.inside.entries.items c.self.inside.numbers c.self.invariant.numbered c.args.entry c.args.self.now c.self.view_is c.push.new.self.items pushed c.requires.derived absent

@@ -2,8 +2,11 @@
 
 ghost use Rattle.std.specs.Prelude.{◌<◌};
 
-use super::*;
 use bitflags::Flags;
+use c_types::{
+    Array, CType, Derivation, Entry, Extent, LayoutFault, Part, Qualifiers, Tag, TypeFault, Types,
+    align_of, layout, size_of, union_layout,
+};
 use filc_num::CIntType;
 use std::test::Fail;
 

@@ -1,6 +1,6 @@
 //! Scopes as files open them, and pairs of declarations of one name.
 
-use super::*;
+use c_scope::{DeclareFault, Scopes, Space, Unknown, space_of};
 use c_tree::{
     Declared, DeclaredFunction, DeclaredObject, DeclaredTag, Definition, Linkage, ObjectNumber,
 };

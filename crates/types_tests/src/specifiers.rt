@@ -1,7 +1,10 @@
 //! Lists of words in any order, lists that name no type, and whole lists of specifiers.
 
-use super::*;
 use BasicType::{Bool, Char, Int, Long, Short, Signed, Unsigned, Void};
+use c_specifiers::{
+    BasicType, SpecifierFault, Standing, TypeSpecifier, qualifiers_among, storage_class,
+    type_named, type_specifier,
+};
 use c_syntax::{Qualifier, Span, Specifier, SpecifierKind, Storage};
 use c_types::{CType, Qualifiers};
 use filc_num::CIntType;

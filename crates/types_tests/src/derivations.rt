@@ -1,8 +1,8 @@
 //! Declarators by hand, as the grammar's tree has them, and the derivations that C's reading of them gives: from the
 //! name outwards, suffixes before pointers, and parentheses first.
 
-use super::*;
 use bitflags::Flags;
+use c_declarators::{Known, derivations_of};
 use c_parts::Span;
 use c_syntax::{Core, Declarator, Expr, ExprKind, Pointer, Qualifier, Suffix, SuffixKind};
 use c_types::{Derivation, ElementCount, Qualifiers, TypeRule};

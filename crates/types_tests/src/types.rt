@@ -1,7 +1,10 @@
 //! Types of declarators worked out by hand, and declarators as long as a file allows.
 
-use super::*;
 use bitflags::Flags;
+use c_types::{
+    CType, Derivation, DeriveFault, ElementCount, Entry, Part, Qualifiers, Tag, TypeRule, Types,
+    size_of,
+};
 use filc_num::CIntType;
 use std::alloc::AllocError;
 use std::test::Fail;
