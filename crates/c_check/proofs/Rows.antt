@@ -2,6 +2,7 @@
 -- a row says so.
 use Rattle.std.proofs.Common.{◌≡◌, ℕ, true, false, List, [], ◌∷◌, replicate, refl}
 use Rattle.std.specs.Prelude.{◌==◌, ◌++◌, map, codes, if◌then◌else◌, Option, Some, None}
+use Rattle.std.specs.List.{fold}
 use Rattle.filc_num.specs.declared.c_int_type.CIntType.TheVariants as kind
 use Rattle.c_syntax.specs.declared.expr.SpecifierKind.TheVariants as k
 use Rattle.c_syntax.specs.declared.words.BasicType.TheVariants as basic
@@ -42,9 +43,8 @@ use Rattle.c_check_expr.specs.TypedExpressions.{tree_of, with_operation, leaf}
 use Rattle.c_check.specs.Statements.{set_local}
 use Rattle.c_check.specs.Statics.{PlainStatic}
 use Rattle.c_check.specs.Functions.{Made}
-use Rattle.c_check.specs.Operations.{Kind, FunctionOf, function_type, written_type, thread_type}
-use Rattle.c_check.specs.Kinds.{kinds_in, are_numbered_from}
-use Rattle.c_check.specs.Files.{Tokens, Ahead, Whole, around_of, start_state, closed, functions_in, file_checked}
+use Rattle.c_check.specs.Kinds.{kinds_in, with_kind}
+use Rattle.c_check.specs.Files.{Tokens, Ahead, Whole, around_of, start_state, closed, functions_in, file_checked, nothing_known, known_at}
 use Rattle.c_check.proofs.WrittenFiles.{specs, int_at, char_at, void_at, stored, struct_tag, union_tag, struct_of, nameless_struct, union_of, enum_of, constant_at, constant_is, plain, pointer_to, array, open_array, takes, parameter, member, int_member, bare, with_value, with_list, declares, declares_one, assertion, does, here, value, switch_on, switch_does, case_of, default, function_at, in_f, main_function, nameless, asserting, declaration, for_with, locals_from, function_pointer}
 
 data Seen : Type 0 where
@@ -73,12 +73,9 @@ tokens =
       spelling = spelled;
     }
 
-abbrev nothing_ahead : Ahead
-nothing_ahead = record { taken = (λ n. []); kinds = [] }
-
 unfoldable checked_file : List External → Checked Whole
 unfolding roll out hidden shown roll-Specifiers out-Specifiers roll-Declarator out-Declarator roll-EnumConstant roll-Parameter hidden-the_row-Declarator-0 hidden-the_row-Specifier-11 shown-the_row-Specifier-11 hidden-the_row-SwitchItem-2 hidden-the_row-Initialiser-0 hidden-the_row-Expr-0 hidden-the_row-Expr-1 hidden-the_row-Link-2 hidden-the_row-Stmt-0 hidden-the_row-Stmt-1 dec_le ℕ_discrete convert_of binary_of lowest_rule layout_of placements_of named_type same_words with_qualifiers lowest_parameter_rule
-checked_file xs = file_checked tokens nothing_ahead (record { items = xs })
+checked_file xs = file_checked tokens nothing_known (record { items = xs })
 
 -- a file without `main` behind it, and one with it
 abbrev alone : List External → Seen
@@ -692,7 +689,7 @@ values_of_a_declarator = refl
 -- a whole file of so many functions of so many values, and of a static object of so many words
 abbrev closed_with : (functions values words : ℕ) → Option ℕ → Seen
 closed_with functions values words main =
-    seen_of (closed (start_state (around_of tokens nothing_ahead [] None) 0) (record {
+    seen_of (closed (start_state (around_of tokens nothing_known [] None) 0) (record {
       functions = replicate functions (record {
         function = record {
           line = 3;
@@ -731,20 +728,15 @@ then_too_many_values = refl
 
 -- ---- numbers of functions' types
 
--- where these types are known to be those of functions, in the order of their numbers
-unfoldable checked_with : (types : List ℕ) → List External → Checked Whole
-unfolding checked_file
-checked_with types xs = file_checked tokens (record nothing_ahead { kinds = types }) (record { items = xs })
+-- where the file's first reading has told what it knows
+abbrev known_in : Checked Whole → Ahead
+known_in (Fine s w) = known_at s w.functions
+known_in (Breaks broken s known) = nothing_known
+known_in (Broke broken) = nothing_known
 
--- what a thread begins with, `int(int)` and `int(void)`
-abbrev types_in : Checked Whole → List ℕ
-types_in (Fine s w) =
-    let int = written_type s.table (Kind kind.Int) in
-    thread_type s.table ∷ (written_type s.table (FunctionOf (Kind kind.Int) (Kind kind.Int))).1.number ∷
-    (function_type s.table int.1 []).1.number ∷
-    []
-types_in (Breaks broken s known) = []
-types_in (Broke broken) = []
+unfoldable answer_of : List External → Checked Whole
+unfolding checked_file
+answer_of xs = file_checked tokens (known_in (checked_file xs)) (record { items = xs })
 
 abbrev kinds_seen : Checked Whole → List ℕ
 kinds_seen (Fine s w) = kinds_in (functions_in w.functions)
@@ -759,16 +751,12 @@ call_through_a_pointer =
     value (after 4 (name 4 1) (called_with (number 4 1))) ∷ []) ∷
     []
 
-functions_then_calls : kinds_seen (checked_with (types_in (checked_file call_through_a_pointer)) call_through_a_pointer) ≡ 1 ∷
-    2 ∷ 1 ∷ []
-unfolding checked_with
+functions_then_calls : kinds_seen (answer_of call_through_a_pointer) ≡ 1 ∷ 2 ∷ 1 ∷ []
+unfolding answer_of
 functions_then_calls = refl
 
-new_kinds_are_the_next_ones : are_numbered_from 1 (1 ∷ 0 ∷ 2 ∷ 1 ∷ 3 ∷ []) ≡ true
+new_kinds_are_the_next_ones : fold with_kind (7 ∷ []) (9 ∷ 7 ∷ 8 ∷ 9 ∷ []) ≡ 7 ∷ 9 ∷ 8 ∷ []
 new_kinds_are_the_next_ones = refl
-
-kind_that_is_left_out : are_numbered_from 1 (1 ∷ 3 ∷ []) ≡ false
-kind_that_is_left_out = refl
 
 -- ---- the order: the first construct that breaks a rule
 

@@ -37,7 +37,7 @@ use Rattle.c_types.specs.declared.derivation.Derivation.TheVariants as derivatio
 use Rattle.c_check_expr.specs.Calls.{Printer}
 use Rattle.c_check.specs.Types.{Table, count_of, with_type, derived, qualified}
 use Rattle.c_check.specs.Operations.{operation_at, bodiless_number, start_of, thread_type}
-use Rattle.c_check.specs.Kinds.{AreKinds}
+use Rattle.c_check.specs.Kinds.{types_of_functions}
 use Rattle.c_check.specs.Statics.{PlainStatic, statics_below}
 use Rattle.c_check.specs.Functions.{Made, function_checked}
 
@@ -176,11 +176,10 @@ pub record Tokens : Type 0 where
   pub is_library : ℕ → Bool
   pub spelling : ℕ → List ℕ
 
--- what only the end of a file tells, and is taken as known: of each function the locals whose address is taken, and the
--- types of functions in the order of their numbers
+-- what only the end of a file tells: of each function the locals whose address is taken, and the number of a function's type
 pub record Ahead : Type 0 where
   pub taken : ℕ → List ℕ
-  pub kinds : List ℕ
+  pub kind_of : ℕ → ℕ
 
 abbrev pub char_array : Table → Option ElementCount → Table × ℕ
 char_array table None = (table, 0)
@@ -198,7 +197,7 @@ around_of t ahead bodies printer =
       text = t.text;
       spelling = t.spelling;
       has_home = (λ local. false);
-      kind_of = (λ ty. number_or (length ahead.kinds) (place_from 0 ty ahead.kinds));
+      kind_of = ahead.kind_of;
       intrinsic = operation_at (length bodies);
       printer = printer;
       char_array = (λ table n. char_array table (count_of n));
@@ -251,10 +250,32 @@ file_checked t ahead file =
     (start_state (around_of t ahead bodies None) (length bodies)) file.items)
     (λ s functions. closed s (whole_of t bodies s functions))
 
--- what was taken as known is what came out
-pub record IsAhead (ahead : Ahead) (s : State) (functions : List Made) : Type 0 where
-  pub taken : (n : ℕ) (m : Made) → slice_get functions n ≡ Some m → ahead.taken n ≡ m.taken
-  pub kinds : AreKinds ahead.kinds (thread_type s.table) (functions_in functions)
+-- ---- a file is read twice
+
+-- before a file is read no address is taken, and the type of a function stands for its own number
+abbrev pub nothing_known : Ahead
+nothing_known = record { taken = (λ function. []); kind_of = (λ ty. ty) }
+
+abbrev pub taken_in : List Made → ℕ → List ℕ
+taken_in [] n = []
+taken_in (m ∷ functions) 0 = m.taken
+taken_in (m ∷ functions) (suc n) = taken_in functions n
+
+abbrev pub kind_number : (types : List ℕ) → ℕ → ℕ
+kind_number types ty = number_or (length types) (place_from 0 ty types)
+
+-- what a whole file's first reading tells
+abbrev pub known_at : State → List Made → Ahead
+known_at s functions =
+    record {
+      taken = taken_in functions;
+      kind_of = kind_number (types_of_functions (thread_type s.table) (functions_in functions));
+    }
+
+-- the second reading knows what the first one found
+abbrev pub file_answer : Tokens → File → Checked Whole
+file_answer t file =
+    next (file_checked t nothing_known file) (λ s whole. file_checked t (known_at s whole.functions) file)
 
 -- ---- the answer: a program, or the first broken rule
 
@@ -268,11 +289,9 @@ AreStatics (p ∷ ps) (d ∷ ds) = IsStatic p d × AreStatics ps ds
 AreStatics _ _ = ⊥
 
 pub record IsProgramOf (t : Tokens) (file : File) (program : PlainProgram) : Type 0 where
-  pub ahead : Ahead
   pub end : State
   pub whole : Whole
-  pub accepted : file_checked t ahead file ≡ Fine end whole
-  pub known : IsAhead ahead end whole.functions
+  pub accepted : file_answer t file ≡ Fine end whole
   pub functions : program.functions ≡ functions_in whole.functions
   pub statics : AreStatics whole.statics program.statics
   pub main : whole.main ≡ Some program.main
@@ -282,6 +301,5 @@ Stops (Fine s x) broken = ⊥
 Stops (Breaks b s known) broken = b ≡ broken
 Stops (Broke b) broken = b ≡ broken
 
--- which rule is broken doesn't hang on what is known ahead
 abbrev pub IsRefused : Tokens → File → Broken → Type 0
-IsRefused t file broken = (ahead : Ahead) → Stops (file_checked t ahead file) broken
+IsRefused t file broken = Stops (file_answer t file) broken

@@ -1,6 +1,7 @@
 -- The numbers of functions' types: 0 is that of `int(void*)`, which a thread begins with, and the others are numbered
 -- from 1 in the order in which functions and then calls through pointers have them first.
-use Rattle.std.specs.Prelude.{◌≡◌, ℕ, suc, ◌==◌, ◌&&◌, nat_lt, Bool, true, List, [], ◌∷◌, ◌++◌, map, length, slice_get, if◌then◌else◌, Option, Some, None, All, IsTrue, ◌<◌}
+use Rattle.std.specs.Prelude.{ℕ, ◌==◌, Bool, List, [], ◌∷◌, ◌++◌, map, if◌then◌else◌, Option, Some, None}
+use Rattle.std.specs.List.{list_any, fold}
 use Rattle.c_tree.specs.declared.operation.Operation.{Operation}
 use Rattle.c_tree.specs.declared.operation.Operation.TheVariants as op
 use Rattle.c_tree.specs.declared.expr.Expr.{Expr, Apply', Chain', Logic', Choose', Print', Row_of-Expr, end_of-Expr, more_of-Expr, Row_of-Link, end_of-Link, more_of-Link}
@@ -62,14 +63,13 @@ kinds_in functions = map (λ (f : FunctionDef). f.kind) functions ++ calls_in fu
 
 -- ---- their order
 
--- where so many numbers are known, the next new one is that many
-abbrev pub are_numbered_from : (known : ℕ) → List ℕ → Bool
-are_numbered_from known [] = true
-are_numbered_from known (k ∷ ks) =
-    if nat_lt k known then are_numbered_from known ks else (k == known && are_numbered_from (suc known) ks)
+abbrev pub is_among : ℕ → List ℕ → Bool
+is_among ty types = list_any (λ other. other == ty) types
 
--- these types have their numbers by these functions
-pub record AreKinds (types : List ℕ) (thread : ℕ) (functions : List FunctionDef) : Type 0 where
-  pub begins : slice_get types 0 ≡ Some thread
-  pub known : All (λ k. k < length types) (kinds_in functions)
-  pub numbered : IsTrue (are_numbered_from 1 (kinds_in functions))
+-- a type that has no number yet takes the next one
+abbrev pub with_kind : List ℕ → ℕ → List ℕ
+with_kind types ty = if is_among ty types then types else types ++ ty ∷ []
+
+-- the types of functions in the order of their numbers, where each of these functions has its type for its number
+abbrev pub types_of_functions : (thread : ℕ) → List FunctionDef → List ℕ
+types_of_functions thread functions = fold with_kind (thread ∷ []) (kinds_in functions)
