@@ -22,10 +22,12 @@ use Rattle.c_types.specs.Sizes.{Room, room_of}
 use Rattle.c_types.specs.Derivations.{lowest, shape_after, rule_of, lowest_rule, rule_of_elements, known_room_of_elements, room_of_elements}
 use Rattle.c_types.specs.Declarators.{type_in, shape_at, shape_of_any, type_of_entry, IsTypeEntry, Keeps, Makes, IsDerived}
 use Rattle.c_types.specs.Whole.{IsTypeAt}
+use Rattle.c_types.proofs.Guards.{list_known, adjusted_known, derived_known}
 use Rattle.c_types.proofs.Deriving.{Keeps-trans, shape_at-keeps, Makes-keeps, Makes-type, Makes-shape, fine_next, no_cause}
-use Rattle.c_check.specs.Types.{Table, with_entry, extent_of, extent_if, extent_in, or_void, array_of, derived_once, derived}
+use Rattle.c_check.specs.Types.{Table, with_entry, extent_of, extent_if, extent_in, or_void, array_of, derived_once, derived_each}
 use Rattle.c_check.specs.Laws.{TypesAreMade}
-use Rattle.c_check.proofs.Entries.{entry_taken, entry_keeps, list_made, adjusted_made}
+use Rattle.c_types.proofs.Extending.{entry_taken, entry_keeps}
+use Rattle.c_check.proofs.Entries.{list_made, adjusted_made}
 
 some_value : {A : Type 0} (x y : A) → Some x ≡ Some y → x ≡ y
 some_value x y h = cc
@@ -177,7 +179,7 @@ first_fine t base d ds h = by (rule_of (shape_at t base.number) d) refl where
   by (Some r) e = let wrong : None ≡ Some r = no_cause (shape_at t base.number) d ds (fault.Broken r) None h e in cc
 
 pub derived_made : (t : Table) (base : Part) (ds : List Derivation) → IsTypeAt t base.number → lowest_rule (shape_at t base.number) None ds ≡ None
-    → Keeps t (derived t base ds).0 × IsDerived (derived t base ds).0 base ds (derived t base ds).1
+    → Keeps t (derived_each t base ds).0 × IsDerived (derived_each t base ds).0 base ds (derived_each t base ds).1
 unfolding IsDerived
 derived_made t base [] there fine = (λ n x h. h, refl)
 derived_made t base (d ∷ ds) there fine =
@@ -187,8 +189,8 @@ derived_made t base (d ∷ ds) there fine =
     let shape = Makes-shape one.0 base d one.1 made.1 ∙ ap (λ s. shape_after s d) (shape_at-keeps t one.0 base.number made.0 there) in
     let left = subst (λ s. lowest_rule s None ds ≡ None) (sym shape) (fine_next (shape_at t base.number) d ds fine first) in
     let rest = derived_made one.0 one.1 ds (Makes-type one.0 base d one.1 made.1) left in (
-      Keeps-trans t one.0 (derived one.0 one.1 ds).0 made.0 rest.0,
-      (one.1, Makes-keeps one.0 (derived one.0 one.1 ds).0 base d one.1 rest.0 made.1, rest.1),
+      Keeps-trans t one.0 (derived_each one.0 one.1 ds).0 made.0 rest.0,
+      (one.1, Makes-keeps one.0 (derived_each one.0 one.1 ds).0 base d one.1 rest.0 made.1, rest.1),
     )
 
 pub types_made : (t : Table) → TypesAreMade t
@@ -198,4 +200,7 @@ types_made t =
       list = list_made t;
       adjusted = adjusted_made t;
       derived = derived_made t;
+      list_of_types = list_known t;
+      adjusted_part = adjusted_known t;
+      derived_part = derived_known t;
     }

@@ -1,15 +1,15 @@
 -- What is to hold of whole files and of their types, in words that aren't the definition again.
-use Rattle.std.specs.Prelude.{◌≡◌, ℕ, List, None}
+use Rattle.std.specs.Prelude.{◌≡◌, ℕ, List, None, All}
 use Rattle.c_syntax.specs.declared.file.File.{File}
 use Rattle.c_types.specs.declared.ctype.CType.{CType}
 use Rattle.c_types.specs.declared.ctype.Part.{Part}
 use Rattle.c_types.specs.declared.derivation.Derivation.{Derivation}
 use Rattle.c_types.specs.Declarators.{shape_at, Keeps, IsPlain, IsDerived, IsParameterList, IsAdjusted}
 use Rattle.c_types.specs.Derivations.{lowest_rule}
-use Rattle.c_types.specs.Whole.{IsTypeAt}
+use Rattle.c_types.specs.Whole.{IsTypeAt, IsPart, DerivationFits}
 use Rattle.c_tree.specs.Plain.{PlainProgram}
 use Rattle.c_check_expr.specs.Outcomes.{Broken}
-use Rattle.c_check.specs.Types.{Table, with_type, derived, parameter_list, adjusted}
+use Rattle.c_check.specs.Types.{Table, with_type, type_of_part, derived_each, derived, list_from, parameter_list, adjusted_as, adjusted}
 use Rattle.c_check.specs.Files.{Tokens, IsProgramOf, IsRefused}
 
 -- a file isn't both a program and refused, and is refused by one rule at one line
@@ -25,11 +25,17 @@ pub record TypesAreMade (t : Table) : Type 0 where
   pub plain : (ty : CType) → Keeps t (with_type t ty).0 × IsPlain (with_type t ty).0 ty (with_type t ty).1
   pub list :
       (types : List ℕ)
-      → Keeps t (parameter_list t types).0 × IsParameterList (parameter_list t types).0 types (parameter_list t types).1
-  pub adjusted : (p : Part) → Keeps t (adjusted t p).0 × IsAdjusted t (adjusted t p).0 p (adjusted t p).1
+      → Keeps t (list_from t types).0 × IsParameterList (list_from t types).0 types (list_from t types).1
+  pub list_of_types : (types : List ℕ) → All (IsTypeAt t) types → parameter_list t types ≡ list_from t types
+  pub adjusted_part : (p : Part) → IsPart t p → adjusted t p ≡ adjusted_as t p (type_of_part t p)
+  pub derived_part :
+      (base : Part) (ds : List Derivation) → IsPart t base → All (DerivationFits t) ds
+      → lowest_rule (shape_at t base.number) None ds ≡ None → derived t base ds ≡ derived_each t base ds
+  pub adjusted :
+      (p : Part) → let made = adjusted_as t p (type_of_part t p) in Keeps t made.0 × IsAdjusted t made.0 p made.1
   pub derived :
       (base : Part) (ds : List Derivation) → IsTypeAt t base.number → lowest_rule (shape_at t base.number) None ds ≡ None
-      → Keeps t (derived t base ds).0 × IsDerived (derived t base ds).0 base ds (derived t base ds).1
+      → Keeps t (derived_each t base ds).0 × IsDerived (derived_each t base ds).0 base ds (derived_each t base ds).1
 
 abbrev pub TablesKeepTypes : Type 0
 TablesKeepTypes = (t : Table) → TypesAreMade t
