@@ -61,7 +61,10 @@ fn fault_of(fault: DeriveFault) -> DeclarationFault
 }
 
 /// Derivations with an outermost size that they don't say.
-fn with_outermost(mut derivations: Vec<Derivation>, outermost: Option<ElementCount>) -> Vec<Derivation>
+fn with_outermost(
+    mut derivations: Vec<Derivation>,
+    outermost: Option<ElementCount>,
+) -> Vec<Derivation>
     ensures { result.items ≡ sized outermost derivations.items }
 {
     match outermost {

@@ -24,7 +24,11 @@ use sqlite_items::Items;
 use std::alloc::Global;
 
 /// A declarator, whose name is in scope after it.
-pub fn declarator_in_scope(alloc: Global, cursor: &mut Cursor<'_>, room: u32) -> Result<Declarator, Fault>
+pub fn declarator_in_scope(
+    alloc: Global,
+    cursor: &mut Cursor<'_>,
+    room: u32,
+) -> Result<Declarator, Fault>
     ensures { Reads (spec.declared (inner room)) cursor.old result cursor.new }
 {
     let declarator = declarator(alloc, cursor, room)?;
