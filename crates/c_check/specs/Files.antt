@@ -2,7 +2,7 @@
 --
 -- construct                     rules, the lowest first
 -- the whole file, in this order 34 35 39 37 38 36
-use Rattle.std.specs.Prelude.{◌≡◌, ℕ, suc, ◌==◌, nat_lt, min, Bool, true, false, is_none, List, [], ◌∷◌, map, length, sum_by, codes, slice_get, if◌then◌else◌, Option, Some, None}
+use Rattle.std.specs.Prelude.{◌≡◌, ℕ, zero, suc, ◌==◌, nat_lt, min, Bool, true, false, is_none, List, [], ◌∷◌, map, length, sum_by, codes, slice_get, if◌then◌else◌, Option, Some, None}
 use Rattle.std.specs.List.{filter_map}
 use Rattle.std.specs.Option.{option_or}
 use Rattle.std.specs.Str.{bytes_eq}
@@ -258,7 +258,7 @@ nothing_known = record { taken = (λ function. []); kind_of = (λ ty. ty) }
 
 abbrev pub taken_in : List Made → ℕ → List ℕ
 taken_in [] n = []
-taken_in (m ∷ functions) 0 = m.taken
+taken_in (m ∷ functions) zero = m.taken
 taken_in (m ∷ functions) (suc n) = taken_in functions n
 
 abbrev pub kind_number : (types : List ℕ) → ℕ → ℕ
