@@ -1,5 +1,5 @@
 -- What is put where there is room, part by part, is put there as a whole.
-use Rattle.std.proofs.Common.{◌≡◌, ℕ, suc, ◌+◌, ◌-◌, ◌≤◌, List, [], ◌∷◌, length, drop, Bool, refl, ap, ◌∙◌, arith}
+use Rattle.std.proofs.Common.{◌≡◌, ℕ, suc, ◌+◌, ◌-◌, ◌≤◌, List, [], ◌∷◌, length, drop, Bool, refl, sym, ap, ◌∙◌, subst, arith}
 use Rattle.c_tree.specs.declared.operation.Operation.{Operation}
 use Rattle.c_tree.specs.declared.operation.Piece.{Piece}
 use Rattle.c_tree.specs.declared.expr.Expr.{Expr, Apply, Chain, Logic, Choose, Print}
@@ -8,7 +8,9 @@ use Rattle.whole_code.specs.declared.op.Op.TheVariants.{Const, Jump, JumpZero}
 use Rattle.expr_gen.specs.Operations.{at_line}
 use Rattle.expr_gen.specs.Code.{op_size, op_code, print_code, branch_size, expr_size, expr_code}
 use Rattle.expr_gen.proofs.Sizes.{expr_length}
+use Rattle.expr_emit.specs.declared.place.Place.{Place}
 use Rattle.expr_emit.specs.Tail.{PlainTail, before, PutsBefore}
+use Rattle.expr_emit.specs.Place.{place_at}
 use Rattle.expr_emit.specs.Lists.{exprs_size, exprs_code, link_list_size, link_list_code, test_list_size, and_list_code, or_list_code, logic_list_size, logic_list_code}
 use Rattle.expr_emit.proofs.Tails.{start_after}
 use Rattle.expr_emit.proofs.Views.{apply_size, chain_size, choose_size, logic_view_size}
@@ -111,3 +113,11 @@ choice_put library line t end other e test one last given0 given1 given2 s0 s1 s
     let start4 = start_after (at_line library line (JumpZero t other) ∷ []) 1 s3 s4 refl e4 in
     choice_built library line t end other e test one last given0 given1 given2 s0 s1 s2 s3 s4 s5 is same0 same1 same2 room there mid c1 e2 c3 e4
     (e5 (omega (arith, room, size, z0, z1, z2, start1, start2, start3, start4)))
+
+-- an expression that is put at a place of this line is put with its value in t
+pub put_as :
+    (p : Place) (library : Bool) (line t : ℕ) (d : ℕ → Expr) (e : Expr) (s0 s1 : PlainTail) → p ≡ place_at library line t → e ≡ d line →
+    PutsBefore (expr_size (d p.line)) (expr_code p.library (d p.line) p.t) s0 s1 → PutsBefore (expr_size e) (expr_code library e t) s0 s1
+put_as p library line t d e s0 s1 there is put =
+    subst (λ (x : Expr). PutsBefore (expr_size x) (expr_code library x t) s0 s1) (sym is)
+    (subst (λ (q : Place). PutsBefore (expr_size (d q.line)) (expr_code q.library (d q.line) q.t) s0 s1) there put)

@@ -1,2 +1,4 @@
 pub mod Tail
+pub mod Place
 pub mod Lists
+pub mod Groups

@@ -4,6 +4,7 @@
 //! are given out as a stack. So a node puts first what uses its operands, and then the operands, the last one first.
 
 ghost use Rattle.std.specs.Prelude.{◌≡◌, ◌+◌, IfOk, OnOk};
+ghost use Rattle.c_tree.specs.declared.expr.Expr.{Apply, Choose, Print};
 ghost use Rattle.expr_gen.specs.Code.{expr_size, expr_code};
 ghost use Rattle.expr_emit.specs.Tail.{PutsBefore};
 ghost use Rattle.expr_emit.specs.Lists.{exprs_size, exprs_code, link_list_size, link_list_code};
@@ -12,9 +13,10 @@ ghost use Rattle.expr_emit.specs.Lists.{logic_list_size, logic_list_code};
 
 use crate::operation::emit_operation;
 use crate::ops::sum;
+use crate::place::{Place, place_of};
 use crate::printing::emit_print;
 use crate::tail::{Tail, put};
-use c_tree::{Expr, Link};
+use c_tree::{Expr, Link, Operation, Piece};
 use std::alloc::AllocError;
 use whole_code::Op;
 
@@ -46,97 +48,138 @@ fn emit_operands(
     Ok(())
 }
 
-/// The code of a chain's links, of which each has its value in t.
+/// The code of a chain's links, of which each has its value in the place's register.
 #[cycle(expression)]
-fn emit_links(
-    tail: &mut Tail,
-    library: bool,
-    line: u32,
-    links: &[Link],
-    t: u32,
-) -> Result<(), AllocError>
+fn emit_links(tail: &mut Tail, place: Place, links: &[Link]) -> Result<(), AllocError>
     ensures { OnOk result (PutsBefore (link_list_size links.now)
-        (link_list_code library line links.now t) tail.old tail.new) }
+        (link_list_code place.library place.line links.now place.t) tail.old tail.new) }
 {
-    let second = sum(t, 1)?;
+    let second = sum(place.t, 1)?;
     for index in (0..links.len()).rev() {
         let link = &links[index];
         let operands = link.operands.as_slice();
         let count = register(1, operands.len())?;
-        emit_operation(tail, library, line, link.op, t, count)?;
-        emit_operands(tail, library, operands, second)?;
+        emit_operation(tail, place, link.op, count)?;
+        emit_operands(tail, place.library, operands, second)?;
     }
     Ok(())
 }
 
 /// The code of the operands of `&&`, of which one that is 0 goes to the index of a 0.
 #[cycle(expression)]
-fn emit_all(
-    tail: &mut Tail,
-    library: bool,
-    line: u32,
-    operands: &[Expr],
-    t: u32,
-    zero: u32,
-) -> Result<(), AllocError>
+fn emit_all(tail: &mut Tail, place: Place, operands: &[Expr], zero: u32) -> Result<(), AllocError>
     ensures { OnOk result (PutsBefore (test_list_size 1 operands.now)
-        (λ at. and_list_code library line operands.now t at zero) tail.old tail.new) }
+        (λ at. and_list_code place.library place.line operands.now place.t at zero)
+        tail.old tail.new) }
 {
+    let a = place.t;
     for index in (0..operands.len()).rev() {
-        put(tail, library, line, &[Op::JumpZero { a: t, target: zero }])?;
-        emit_expression(tail, library, &operands[index], t)?;
+        put(tail, place, &[Op::JumpZero { a, target: zero }])?;
+        emit_expression(tail, place.library, &operands[index], place.t)?;
     }
     Ok(())
 }
 
 /// The code of the operands of `||`, of which one that isn't 0 becomes 1 and goes to the end.
 #[cycle(expression)]
-fn emit_any(
-    tail: &mut Tail,
-    library: bool,
-    line: u32,
-    operands: &[Expr],
-    t: u32,
-    end: u32,
-) -> Result<(), AllocError>
+fn emit_any(tail: &mut Tail, place: Place, operands: &[Expr], end: u32) -> Result<(), AllocError>
     ensures { OnOk result (PutsBefore (test_list_size 3 operands.now)
-        (λ at. or_list_code library line operands.now t at end) tail.old tail.new) }
+        (λ at. or_list_code place.library place.line operands.now place.t at end)
+        tail.old tail.new) }
 {
+    let t = place.t;
     for index in (0..operands.len()).rev() {
         let next = Op::JumpZero {
             a: t,
             target: tail.start(),
         };
         let one = Op::Const { d: t, constant: 1 };
-        put(tail, library, line, &[next, one, Op::Jump { target: end }])?;
-        emit_expression(tail, library, &operands[index], t)?;
+        put(tail, place, &[next, one, Op::Jump { target: end }])?;
+        emit_expression(tail, place.library, &operands[index], t)?;
     }
     Ok(())
 }
 
 /// The code of `&&`, where `all`, or of `||`.
 #[cycle(expression)]
-fn emit_logic(
-    tail: &mut Tail,
-    library: bool,
-    line: u32,
-    all: bool,
-    operands: &[Expr],
-    t: u32,
-) -> Result<(), AllocError>
+fn emit_logic(tail: &mut Tail, place: Place, all: bool, operands: &[Expr]) -> Result<(), AllocError>
     ensures { OnOk result (PutsBefore (logic_list_size all operands.now)
-        (logic_list_code library line all operands.now t) tail.old tail.new) }
+        (logic_list_code place.library place.line all operands.now place.t)
+        tail.old tail.new) }
 {
+    let t = place.t;
     let end = tail.start();
-    put(tail, library, line, &[Op::Const { d: t, constant: 0 }])?;
+    put(tail, place, &[Op::Const { d: t, constant: 0 }])?;
     if all {
         let zero = tail.start();
         let one = Op::Const { d: t, constant: 1 };
-        put(tail, library, line, &[one, Op::Jump { target: end }])?;
-        emit_all(tail, library, line, operands, t, zero)
+        put(tail, place, &[one, Op::Jump { target: end }])?;
+        emit_all(tail, place, operands, zero)
     } else {
-        emit_any(tail, library, line, operands, t, end)
+        emit_any(tail, place, operands, end)
     }
+}
+
+/// The code of an operation and its operands.
+#[cycle(expression)]
+fn emit_apply(
+    tail: &mut Tail,
+    place: Place,
+    op: Operation,
+    operands: &[Expr],
+) -> Result<(), AllocError>
+    ensures { OnOk result (PutsBefore (expr_size (Apply place.line op operands.now))
+        (expr_code place.library (Apply place.line op operands.now) place.t)
+        tail.old tail.new) }
+{
+    let count = register(0, operands.len())?;
+    emit_operation(tail, place, op, count)?;
+    emit_operands(tail, place.library, operands, place.t)
+}
+
+/// The code of a choice. What its test goes to, and its end, are there before the jumps to them.
+#[cycle(expression)]
+fn emit_choice(
+    tail: &mut Tail,
+    place: Place,
+    test: &Expr,
+    one: &Expr,
+    last: &Expr,
+) -> Result<(), AllocError>
+    ensures { OnOk result (PutsBefore
+        (expr_size (Choose place.line test.now one.now last.now))
+        (expr_code place.library (Choose place.line test.now one.now last.now) place.t)
+        tail.old tail.new) }
+{
+    let t = place.t;
+    let end = tail.start();
+    emit_expression(tail, place.library, last, t)?;
+    let other = tail.start();
+    put(tail, place, &[Op::Jump { target: end }])?;
+    emit_expression(tail, place.library, one, t)?;
+    let skip = Op::JumpZero {
+        a: t,
+        target: other,
+    };
+    put(tail, place, &[skip])?;
+    emit_expression(tail, place.library, test, t)
+}
+
+/// The code of `printf` and its operands.
+#[cycle(expression)]
+fn emit_printf(
+    tail: &mut Tail,
+    place: Place,
+    operands: &[Expr],
+    pieces: &[Piece],
+) -> Result<(), AllocError>
+    ensures { OnOk result (PutsBefore (expr_size (Print place.line operands.now pieces.now))
+        (expr_code place.library (Print place.line operands.now pieces.now) place.t)
+        tail.old tail.new) }
+{
+    let count = register(0, operands.len())?;
+    emit_print(tail, place, pieces, count)?;
+    emit_operands(tail, place.library, operands, place.t)
 }
 
 /// The code of an expression, with its value in t, before what is there. A sum of registers, or an element's
@@ -153,49 +196,36 @@ pub fn emit_expression(
 {
     match expr {
         Expr::Apply { line, op, operands } => {
-            let count = register(0, operands.len())?;
-            emit_operation(tail, library, *line, *op, t, count)?;
-            emit_operands(tail, library, operands.as_slice(), t)
+            emit_apply(tail, place_of(library, *line, t), *op, operands.as_slice())
         }
         Expr::Chain { line, first, links } => {
-            emit_links(tail, library, *line, links.as_slice(), t)?;
+            emit_links(tail, place_of(library, *line, t), links.as_slice())?;
             emit_expression(tail, library, first.get(), t)
         }
         Expr::Logic {
             line,
             all,
             operands,
-        } => emit_logic(tail, library, *line, *all, operands.as_slice(), t),
+        } => {
+            let place = place_of(library, *line, t);
+            emit_logic(tail, place, *all, operands.as_slice())
+        }
         Expr::Choose {
             line,
             test,
             then,
             otherwise,
         } => {
-            let end = tail.start();
-            emit_expression(tail, library, otherwise.get(), t)?;
-            let other = tail.start();
-            put(tail, library, *line, &[Op::Jump { target: end }])?;
-            emit_expression(tail, library, then.get(), t)?;
-            put(
-                tail,
-                library,
-                *line,
-                &[Op::JumpZero {
-                    a: t,
-                    target: other,
-                }],
-            )?;
-            emit_expression(tail, library, test.get(), t)
+            let place = place_of(library, *line, t);
+            emit_choice(tail, place, test.get(), then.get(), otherwise.get())
         }
         Expr::Print {
             line,
             operands,
             pieces,
         } => {
-            let count = register(0, operands.len())?;
-            emit_print(tail, library, *line, pieces.as_slice(), t, count)?;
-            emit_operands(tail, library, operands.as_slice(), t)
+            let place = place_of(library, *line, t);
+            emit_printf(tail, place, operands.as_slice(), pieces.as_slice())
         }
     }
 }

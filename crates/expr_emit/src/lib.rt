@@ -9,12 +9,15 @@
 mod expression;
 mod operation;
 mod ops;
+mod place;
 mod printing;
 mod several;
+mod single;
 mod size;
 mod tail;
 
 pub use expression::emit_expression;
 pub use ops::{binary_op, store_op, sum};
+pub use place::Place;
 pub use size::size_of_expr;
 pub use tail::{Tail, put};

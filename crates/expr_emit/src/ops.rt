@@ -3,6 +3,8 @@
 //! A sum of registers, or an element's size, that doesn't fit an instruction is too much memory.
 
 ghost use Rattle.std.specs.Prelude.{◌≡◌, ◌+◌, IfOk};
+ghost use Rattle.whole_code.specs.Numbers.{type_number};
+ghost use Rattle.whole_code.specs.declared.op.Op.TheVariants.{Convert, PointerAdd, Call};
 ghost use Rattle.expr_gen.specs.Operations.{binary_op, load_op, store_op, swap_op, fetch_op};
 
 use c_tree::Access;
@@ -40,6 +42,36 @@ pub fn binary_op(operator: BinOp, ty: IntType, d: u32, a: u32, b: u32) -> Op
         b,
         op: operator_number(operator),
         t: type_number(ty),
+    }
+}
+
+/// d becomes a, converted to this type.
+pub fn convert_op(d: u32, a: u32, ty: IntType) -> Op
+    ensures { result ≡ Convert d a (type_number ty) }
+{
+    Op::Convert {
+        d,
+        a,
+        t: type_number(ty),
+    }
+}
+
+/// d becomes the pointer in a, which goes forward by b elements of so many bytes.
+pub fn advance_op(d: u32, a: u32, b: u32, bytes: u32) -> Op
+    ensures { result ≡ PointerAdd d a b bytes }
+{
+    Op::PointerAdd { d, a, b, bytes }
+}
+
+/// d becomes what a function gives of so many arguments.
+pub fn call_op(d: u32, function: u32, first: u32, count: u32) -> Op
+    ensures { result ≡ Call d function first count }
+{
+    Op::Call {
+        d,
+        function,
+        first,
+        count,
     }
 }
 
@@ -89,16 +121,23 @@ pub fn swap_op(lies: Access, d: u32, p: u32, a: u32) -> Op
     }
 }
 
-/// d becomes the integer at p, in place of which comes what an operator makes of it and a.
-pub fn fetch_op(object: IntType, operator: BinOp, computed: IntType, d: u32, p: u32, a: u32) -> Op
-    ensures { result ≡ fetch_op object operator computed d p a }
+/// d becomes the integer that t points to, in place of which comes what an operator makes of it and t + 1.
+pub fn fetch_op(
+    object: IntType,
+    operator: BinOp,
+    computed: IntType,
+    d: u32,
+    t: u32,
+) -> Result<Op, AllocError>
+    ensures { IfOk result (λ o. o ≡ fetch_op object operator computed d t (t + 1)) }
 {
-    Op::RmwInt {
+    let a = sum(t, 1)?;
+    Ok(Op::RmwInt {
         d,
-        p,
+        p: t,
         a,
         op: operator_number(operator),
         t: type_number(object),
         u: type_number(computed),
-    }
+    })
 }

@@ -13,69 +13,87 @@ ghost use Rattle.expr_gen.specs.Code.{instructions, op_size};
 ghost use Rattle.tree_play.specs.Memory.{unit_access, unit_bytes};
 ghost use Rattle.expr_emit.specs.Tail.{before, PutsBefore};
 
-use crate::ops::{binary_op, element, load_op, store_op, sum};
+use crate::ops::{advance_op, binary_op, convert_op, element, load_op, store_op, sum};
+use crate::place::Place;
 use crate::tail::{Tail, put};
 use c_tree::{Access, Change, Unit};
 use filc_num::{BinOp, IntType};
 use std::alloc::AllocError;
 use whole_code::{Op, type_number};
 
-/// The code of a change: d becomes what it makes of a by b, and s is free.
+/// The registers of a change: what it makes comes into `to`, of the old value in `left` and of `right`.
+#[derive(Clone, Copy, Debug, PartialEq, Eq)]
+pub struct Registers {
+    pub to: u32,
+    /// It is free, and neither `left` nor `right`.
+    pub free: u32,
+    pub left: u32,
+    pub right: u32,
+}
+
+/// The code of a change.
 pub fn emit_change(
     tail: &mut Tail,
-    library: bool,
-    line: u32,
+    place: Place,
     how: Change,
-    d: u32,
-    s: u32,
-    a: u32,
-    b: u32,
+    at: Registers,
 ) -> Result<(), AllocError>
-    ensures { OnOk result
-        (tail.new ≡ before (instructions library line (change_ops how d s a b)) tail.old) }
+    ensures { OnOk result (tail.new ≡ before (instructions place.library place.line
+        (change_ops how at.to at.free at.left at.right)) tail.old) }
 {
+    let d = at.to;
     match how {
         Change::Integer(operator, computed, to) => {
-            let compute = binary_op(operator, computed, d, a, b);
-            let t = type_number(to);
-            put(tail, library, line, &[compute, Op::Convert { d, a: d, t }])
+            let compute = binary_op(operator, computed, d, at.left, at.right);
+            put(tail, place, &[compute, convert_op(d, d, to)])
         }
         Change::Advance(bytes) => {
             let bytes = element(bytes)?;
-            put(tail, library, line, &[Op::PointerAdd { d, a, b, bytes }])
+            put(tail, place, &[advance_op(d, at.left, at.right, bytes)])
         }
         Change::Retreat(bytes) => {
+            let s = at.free;
             let bytes = element(bytes)?;
             let zero = Op::Const { d: s, constant: 0 };
-            let negate = binary_op(BinOp::Sub, IntType::U64, s, s, b);
-            let advance = Op::PointerAdd { d, a, b: s, bytes };
-            put(tail, library, line, &[zero, negate, advance])
+            let negate = binary_op(BinOp::Sub, IntType::U64, s, s, at.right);
+            put(
+                tail,
+                place,
+                &[zero, negate, advance_op(d, at.left, s, bytes)],
+            )
         }
     }
 }
 
-/// The code of a change of what lies at t, by the right operand in t + 1. The expression's value is in
-/// the register `told`.
+/// The code of a change of what lies where t, the place's register, points, by the right operand in t + 1. The
+/// expression's value is in the register `told`.
 pub fn emit_update(
     tail: &mut Tail,
-    library: bool,
-    line: u32,
+    place: Place,
     lies: Access,
     how: Change,
-    t: u32,
     told: u32,
 ) -> Result<(), AllocError>
-    ensures { OnOk result (tail.new ≡ before (instructions library line
-        (load_op lies (t + 2) t ∷ change_ops how (t + 1) (t + 3) (t + 2) (t + 1)
-        ++ store_op lies t (t + 1) ∷ Move t told ∷ [])) tail.old) }
+    ensures { OnOk result (tail.new ≡ before (instructions place.library place.line
+        (load_op lies (place.t + 2) place.t
+        ∷ change_ops how (place.t + 1) (place.t + 3) (place.t + 2)
+        (place.t + 1)
+        ++ store_op lies place.t (place.t + 1) ∷ Move place.t told ∷ []))
+        tail.old) }
 {
+    let t = place.t;
     let new = sum(t, 1)?;
     let old = sum(t, 2)?;
-    let free = sum(t, 3)?;
+    let at = Registers {
+        to: new,
+        free: sum(t, 3)?,
+        left: old,
+        right: new,
+    };
     let store = store_op(lies, t, new);
-    put(tail, library, line, &[store, Op::Move { d: t, a: told }])?;
-    emit_change(tail, library, line, how, new, free, old, new)?;
-    put(tail, library, line, &[load_op(lies, old, t)])
+    put(tail, place, &[store, Op::Move { d: t, a: told }])?;
+    emit_change(tail, place, how, at)?;
+    put(tail, place, &[load_op(lies, old, t)])
 }
 
 /// How a unit of a structure lies.
@@ -114,18 +132,14 @@ fn step_op(d: u32, one: u32, bytes: u32) -> Op
     }
 }
 
-/// The code of a copy of so many units, from the address in t + 1 to that in t.
-pub fn emit_copy(
-    tail: &mut Tail,
-    library: bool,
-    line: u32,
-    unit: Unit,
-    count: u64,
-    t: u32,
-) -> Result<(), AllocError>
-    ensures { OnOk result (PutsBefore 10 (λ at. instructions library line
-        (copy_ops (unit_access unit) (unit_bytes unit) count t at)) tail.old tail.new) }
+/// The code of a copy of so many units, from the address in t + 1 to that in t, the place's
+/// register.
+pub fn emit_copy(tail: &mut Tail, place: Place, unit: Unit, count: u64) -> Result<(), AllocError>
+    ensures { OnOk result (PutsBefore 10 (λ at. instructions place.library place.line
+        (copy_ops (unit_access unit) (unit_bytes unit) count place.t at))
+        tail.old tail.new) }
 {
+    let t = place.t;
     let lies = unit_access(unit);
     let bytes = unit_bytes(unit);
     let from = sum(t, 1)?;
@@ -156,7 +170,7 @@ pub fn emit_copy(
         binary_op(BinOp::Sub, IntType::U64, left, left, one),
         Op::Jump { target: test },
     ];
-    put(tail, library, line, &ops)
+    put(tail, place, &ops)
 }
 
 /// The unsigned type of as many bytes.
@@ -172,16 +186,11 @@ fn unsigned_of(ty: IntType) -> IntType
 }
 
 /// The code of a compare and exchange of an integer.
-fn emit_int_exchange(
-    tail: &mut Tail,
-    library: bool,
-    line: u32,
-    ty: IntType,
-    t: u32,
-) -> Result<(), AllocError>
-    ensures { OnOk result (PutsBefore 10
-        (λ at. instructions library line (cas_ops (Integer ty) t at)) tail.old tail.new) }
+fn emit_int_exchange(tail: &mut Tail, place: Place, ty: IntType) -> Result<(), AllocError>
+    ensures { OnOk result (PutsBefore 10 (λ at. instructions place.library place.line
+        (cas_ops (Integer ty) place.t at)) tail.old tail.new) }
 {
+    let t = place.t;
     let p = sum(t, 1)?;
     let n = sum(t, 2)?;
     let e = sum(t, 3)?;
@@ -189,26 +198,17 @@ fn emit_int_exchange(
     let made = sum(t, 5)?;
     let end = tail.start();
     let failed = end.saturating_sub(3);
-    let ty_number = type_number(ty);
-    let low = type_number(unsigned_of(ty));
+    let lies = Access::Integer(ty);
     let ops = [
-        Op::LoadInt {
-            d: e,
-            p,
-            t: ty_number,
-        },
+        load_op(lies, e, p),
         Op::CasInt {
             d: found,
             p: t,
             e,
             n,
-            t: ty_number,
+            t: type_number(ty),
         },
-        Op::Convert {
-            d: made,
-            a: e,
-            t: low,
-        },
+        convert_op(made, e, unsigned_of(ty)),
         binary_op(BinOp::Eq, IntType::U64, made, found, made),
         Op::JumpZero {
             a: made,
@@ -216,26 +216,19 @@ fn emit_int_exchange(
         },
         Op::Const { d: t, constant: 1 },
         Op::Jump { target: end },
-        Op::Convert {
-            d: found,
-            a: found,
-            t: ty_number,
-        },
-        Op::StoreInt {
-            p,
-            a: found,
-            t: ty_number,
-        },
+        convert_op(found, found, ty),
+        store_op(lies, p, found),
         Op::Const { d: t, constant: 0 },
     ];
-    put(tail, library, line, &ops)
+    put(tail, place, &ops)
 }
 
 /// The code of a compare and exchange of a pointer.
-fn emit_pair_exchange(tail: &mut Tail, library: bool, line: u32, t: u32) -> Result<(), AllocError>
-    ensures { OnOk result (PutsBefore 7
-        (λ at. instructions library line (cas_ops Box t at)) tail.old tail.new) }
+fn emit_pair_exchange(tail: &mut Tail, place: Place) -> Result<(), AllocError>
+    ensures { OnOk result (PutsBefore 7 (λ at. instructions place.library place.line
+        (cas_ops Box place.t at)) tail.old tail.new) }
 {
+    let t = place.t;
     let p = sum(t, 1)?;
     let n = sum(t, 2)?;
     let e = sum(t, 3)?;
@@ -261,22 +254,16 @@ fn emit_pair_exchange(tail: &mut Tail, library: bool, line: u32, t: u32) -> Resu
         Op::StorePointer { p, a: found },
         Op::Const { d: t, constant: 0 },
     ];
-    put(tail, library, line, &ops)
+    put(tail, place, &ops)
 }
 
 /// The code of a compare and exchange.
-pub fn emit_exchange(
-    tail: &mut Tail,
-    library: bool,
-    line: u32,
-    lies: Access,
-    t: u32,
-) -> Result<(), AllocError>
-    ensures { OnOk result (PutsBefore (op_size (Cas lies))
-        (λ at. instructions library line (cas_ops lies t at)) tail.old tail.new) }
+pub fn emit_exchange(tail: &mut Tail, place: Place, lies: Access) -> Result<(), AllocError>
+    ensures { OnOk result (PutsBefore (op_size (Cas lies)) (λ at. instructions place.library
+        place.line (cas_ops lies place.t at)) tail.old tail.new) }
 {
     match lies {
-        Access::Integer(ty) => emit_int_exchange(tail, library, line, ty, t),
-        Access::Pointer | Access::Box => emit_pair_exchange(tail, library, line, t),
+        Access::Integer(ty) => emit_int_exchange(tail, place, ty),
+        Access::Pointer | Access::Box => emit_pair_exchange(tail, place),
     }
 }

@@ -7,6 +7,7 @@ ghost use Rattle.std.specs.Prelude.{◌≡◌, [], ◌∷◌, length, OnOk};
 ghost use Rattle.expr_gen.specs.Code.{instructions};
 ghost use Rattle.expr_emit.specs.Tail.{plain_tail, before, Replaces};
 
+use crate::place::Place;
 use std::alloc::{AllocError, Global};
 use std::marker::Model;
 use whole_code::{Instruction, Op};
@@ -84,13 +85,14 @@ impl Tail {
 
 /// These instructions more, of one line.
 #[tactic(auto, using(crate::proofs::Tails::before_append))]
-pub fn put(tail: &mut Tail, library: bool, line: u32, ops: &[Op]) -> Result<(), AllocError>
-    ensures { OnOk result (tail.new ≡ before (instructions library line ops.now) tail.old) }
+pub fn put(tail: &mut Tail, place: Place, ops: &[Op]) -> Result<(), AllocError>
+    ensures { OnOk result (tail.new ≡
+        before (instructions place.library place.line ops.now) tail.old) }
 {
     for index in (0..ops.len()).rev() {
         tail.push(Instruction {
-            line,
-            library,
+            line: place.line,
+            library: place.library,
             op: ops[index],
         })?;
     }

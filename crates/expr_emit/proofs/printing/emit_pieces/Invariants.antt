@@ -6,4 +6,4 @@ use Rattle.expr_emit.specs.Tail.{before}
 use Rattle.expr_emit.proofs.printing.emit_pieces.Given as goal
 
 abbrev pub invariant-loop-index : goal.invariant-loop-index
-invariant-loop-index l = l.tail ≡ before (instructions l.library l.line (pieces_ops (drop l.index l.pieces) l.t l.c)) l.fn.tail
+invariant-loop-index l = l.tail ≡ before (instructions l.place.library l.place.line (pieces_ops (drop l.index l.pieces) l.place.t l.c)) l.fn.tail

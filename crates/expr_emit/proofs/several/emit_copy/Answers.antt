@@ -28,7 +28,7 @@ copy_put library line bytes0 bytes count t from to left one value end test lies0
 pub returns : goal.returns
 returns c =
     on_ok c.put.result _ _
-    (λ e. copy_put c.args.library c.args.line _ c.unit_bytes-bytes.result c.args.count c.args.t c.in_ok-from.from c.in_ok-to.to c.in_ok-left.left c.in_ok-one.one
+    (λ e. copy_put c.args.place.library c.args.place.line _ c.unit_bytes-bytes.result c.args.count c.args.place.t c.in_ok-from.from c.in_ok-to.to c.in_ok-left.left c.in_ok-one.one
     c.in_ok-value.value c.start-end.result c.saturating_sub-test.result _ c.unit_access-lies.result c.load_op.result c.store_op.result c.step_op.result
     c.step_op-2.result c.binary_op.result c.args.tail.now c.put.new.tail c.unit_access-lies.ensures c.unit_bytes-bytes.ensures c.in_ok-from.ensures c.in_ok-to.ensures c.in_ok-left.ensures c.in_ok-one.ensures
     c.in_ok-value.ensures c.start-end.ensures c.saturating_sub-test.ensures c.load_op.ensures c.store_op.ensures c.step_op.ensures c.step_op-2.ensures

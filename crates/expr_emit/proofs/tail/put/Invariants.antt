@@ -5,4 +5,4 @@ use Rattle.expr_emit.specs.Tail.{before}
 use Rattle.expr_emit.proofs.tail.put.Given as goal
 
 abbrev pub invariant-loop-index : goal.invariant-loop-index
-invariant-loop-index l = l.tail ≡ before (instructions l.library l.line (drop l.index l.ops)) l.fn.tail
+invariant-loop-index l = l.tail ≡ before (instructions l.place.library l.place.line (drop l.index l.ops)) l.fn.tail
