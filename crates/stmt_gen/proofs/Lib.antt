@@ -8,3 +8,4 @@ pub mod Cuts
 pub mod Stands
 pub mod Calls
 pub mod Programs
+mod Idling

@@ -3,6 +3,8 @@
 --
 -- The locals x and y are registers 0 and 1. Each row is a statement of C and its instructions, worked out by hand; a jump
 -- names the index of the instruction to which it leads.
+--
+-- And worked examples of what plays no program: code that idles makes backward jumps that the play doesn't make.
 use Rattle.std.specs.Prelude.{◌≡◌, ℕ, List, [], ◌∷◌, map, false, Some, None}
 use Rattle.filc_num.specs.declared.integer.IntType.TheVariants.{I32}
 use Rattle.c_tree.specs.declared.operation.Access.TheVariants as access
@@ -11,12 +13,19 @@ use Rattle.c_tree.specs.declared.stmt.LocalKind.TheVariants.{Zero, Home as HomeK
 use Rattle.c_tree.specs.declared.stmt.Case.{Case}
 use Rattle.c_tree.specs.declared.stmt.Stmt.{Stmt, BreakUnless, Break, Continue, Switch', Return as ReturnStmt, end_of-Stmt, more_of-Stmt}
 use Rattle.c_tree.specs.declared.program.FunctionDef.{FunctionDef}
-use Rattle.tree_play.specs.Worked.Setting.{one, local, empty, block_of_one, block_of_two, loop_of, if_of, local_of, set}
+use Rattle.c_tree.specs.Plain.{PlainProgram, plain_program}
+use Rattle.ideal_machine.specs.declared.event.Answer.TheVariants.{Done}
+use Rattle.ideal_machine.specs.Values.{zero_value}
+use Rattle.ideal_machine.specs.Phrases.{Start}
+use Rattle.tree_play.specs.Worked.Setting.{one, number, local, empty, block_of_one, block_of_two, loop_of, if_of, local_of, set}
 use Rattle.whole_code.specs.declared.op.Op.{Op}
 use Rattle.whole_code.specs.declared.op.Op.TheVariants.{Const, Move, Convert, Binary, Jump, JumpZero, StoreInt, Home, Return}
 use Rattle.whole_code.specs.declared.op.Instruction.{Instruction}
+use Rattle.whole_code.specs.Plain.{PlainCode}
+use Rattle.expr_gen.specs.Operations.{at_line}
 use Rattle.stmt_gen.specs.Code.{stmt_code}
 use Rattle.stmt_gen.specs.Programs.{body_code}
+use Rattle.stmt_gen.specs.Correct.{PlaysOn}
 
 abbrev pub HasOps : Stmt → List Op → Type 0
 HasOps s ops = map (λ (i : Instruction). i.op) (stmt_code false s 2 0 (record { broke = 90; continued = 91 })) ≡ ops
@@ -74,3 +83,39 @@ assigns =
 abbrev pub FunctionIsCode : Type 0
 FunctionIsCode =
     map (λ (i : Instruction). i.op) (body_code assigns) ≡ Move 2 0 ∷ Move 1 2 ∷ Const 2 0 ∷ Return 2 ∷ []
+
+-- ---- code that idles
+
+-- `int main(void){return 0;}`
+abbrev pub returning : PlainProgram
+returning =
+    plain_program
+    (record { line = 1; library = false; kind = 1; parameters = 0; locals = 0; values = 9; body = ReturnStmt 1 (Some (number 0)) } ∷ [])
+    [] 0
+
+abbrev pub code_of : List Instruction → PlainCode
+code_of instructions = record {
+  functions = record { values = 9; parameters = 0; kind = 1; instructions = instructions } ∷ [];
+  statics = [];
+  main = 0;
+}
+
+-- it jumps to its first instruction for ever
+abbrev pub endless : List Instruction
+endless = at_line false 1 (Jump 0) ∷ at_line false 1 (Const 0 0) ∷ at_line false 1 (Return 0) ∷ []
+
+-- it jumps back once, and then does what it should
+abbrev pub once_back : List Instruction
+once_back =
+    at_line false 1 (Jump 2) ∷ at_line false 1 (Jump 3) ∷ at_line false 1 (Jump 1) ∷ at_line false 1 (Const 0 0)
+    ∷ at_line false 1 (Return 0) ∷ []
+
+-- `main` is begun, and its exit is answered
+abbrev pub main_start : Start
+main_start = record { id = 0; function = 0; argument = zero_value; base = λ _. 0 }
+
+abbrev pub EndlessCodePlaysNothing : Type 0
+EndlessCodePlaysNothing = ¬ PlaysOn (code_of endless) returning main_start (Done ∷ [])
+
+abbrev pub OneJumpMoreIsNoPlay : Type 0
+OneJumpMoreIsNoPlay = ¬ PlaysOn (code_of once_back) returning main_start (Done ∷ [])

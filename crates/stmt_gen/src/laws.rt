@@ -1,8 +1,9 @@
-//! The laws: code plays what it is the code of, and is as long as its size says. And worked code.
+//! The laws: code plays what it is the code of, and is as long as its size says. And worked code, and what plays nothing.
 
 ghost use Rattle.stmt_gen.specs.Correct.{StatementsPlay, ProgramsPlay, CodeHasItsSize};
 ghost use Rattle.stmt_gen.specs.Worked.{BlockIsCode, IfIsCode, WhileIsCode, ForIsCode};
 ghost use Rattle.stmt_gen.specs.Worked.{SwitchIsCode, ReturnIsCode, FunctionIsCode};
+ghost use Rattle.stmt_gen.specs.Worked.{EndlessCodePlaysNothing, OneJumpMoreIsNoPlay};
 
 /// The code of every statement plays it, by its flow to its end, to an exit or to a return.
 pub fn statements_play()
@@ -32,4 +33,10 @@ pub fn worked_code_of_statements()
 pub fn worked_code_of_functions()
     ensures returned { ReturnIsCode }
     ensures function { FunctionIsCode }
+{}
+
+/// Code that idles plays nothing, be it for ever or for one backward jump.
+pub fn idling_code_plays_nothing()
+    ensures endless { EndlessCodePlaysNothing }
+    ensures once { OneJumpMoreIsNoPlay }
 {}
