@@ -1,21 +1,22 @@
 -- What is put where there is room, part by part, is put there as a whole.
-use Rattle.std.proofs.Common.{◌≡◌, ℕ, ◌+◌, ◌-◌, ◌≤◌, List, [], ◌∷◌, ◌++◌, length, drop, reverse, Bool, refl, sym, ap, ◌∙◌, arith}
-use Rattle.std.specs.Prelude.{slice_index_or}
+use Rattle.std.proofs.Common.{◌≡◌, ℕ, ◌+◌, ◌-◌, ◌≤◌, List, [], ◌∷◌, ◌++◌, length, drop, reverse, Bool, refl, sym, ap, ◌∙◌, subst, arith}
+use Rattle.std.specs.Prelude.{slice_index_or, Option, Some}
 use Rattle.std.proofs.lemmas.List.{reverse-reverse}
 use Rattle.c_tree.specs.declared.expr.Expr.{Expr}
 use Rattle.c_tree.specs.declared.stmt.LocalDef.{LocalDef}
 use Rattle.c_tree.specs.declared.stmt.Case.{Case}
 use Rattle.c_tree.specs.declared.stmt.Stmt.{Stmt, Block, If, Loop, BreakUnless, Switch}
-use Rattle.whole_code.specs.declared.op.Op.TheVariants.{Jump, JumpZero}
+use Rattle.whole_code.specs.declared.op.Op.TheVariants.{Jump, JumpZero, Return}
 use Rattle.whole_code.specs.declared.op.Instruction.{Instruction}
 use Rattle.expr_gen.specs.Operations.{at_line}
 use Rattle.expr_gen.specs.Code.{branch_size, expr_size, expr_code}
-use Rattle.stmt_gen.specs.Code.{Exits, locals_size, locals_code, cases_size, cases_code, switch_exits, stmt_size, stmt_code}
+use Rattle.stmt_gen.specs.Code.{Exits, locals_size, locals_code, cases_size, cases_code, switch_exits, return_size, return_code, stmt_size, stmt_code}
 use Rattle.stmt_gen.proofs.Sizes.{stmt_length, cases_length}
 use Rattle.expr_emit.specs.Tail.{PlainTail, before, PutsBefore, Replaces}
 use Rattle.expr_emit.proofs.Tails.{next_before, start_after, long_two}
 use Rattle.expr_emit.proofs.Steps.{built_branch}
-use Rattle.stmt_emit.specs.Lists.{statements_size, statements_code, starts_of}
+use Rattle.stmt_emit.specs.declared.statement.Inside.{Inside}
+use Rattle.stmt_emit.specs.Lists.{exits_of, inside_at, statements_size, statements_code, starts_of}
 use Rattle.stmt_emit.proofs.Views.{block_size, block_code, if_size, if_code, loop_size, loop_view_code, switch_size, switch_view_code}
 use Rattle.stmt_emit.proofs.Steps.{statements_length, statements_rest, statements_step, starts_step, built_loop}
 
@@ -49,6 +50,18 @@ module _ (library : Bool) (i j : ℕ) (s0 s1 s2 : PlainTail) (l : List Stmt) (s 
       let here : start ≡ s0.start - m =
       there ∙ start_after (statements_code library (drop i l) t (s0.start - m) x) m s0 s2 (statements_length library (drop i l) t (s0.start - m) x) (statements_put f g room) in
       starts_step i j s0.start start starts starts1 starts2 l s more room here (e room) h
+
+-- a value's code, and then its return
+pub return_put :
+    (library : Bool) (line t : ℕ) (given : Option Expr) (value : Expr) (s0 s1 s2 : PlainTail) → given ≡ Some value →
+    s1 ≡ before (at_line library line (Return t) ∷ []) s0 → PutsBefore (expr_size value) (expr_code library value t) s1 s2 →
+    PutsBefore (return_size given) (return_code library line given t) s0 s2
+return_put library line t given value s0 s1 s2 is f g =
+    let n = expr_size value in
+    let back = at_line library line (Return t) in
+    let start = start_after (back ∷ []) 1 s0 s1 refl f in
+    subst (λ (o : Option Expr). PutsBefore (return_size o) (return_code library line o t) s0 s2) (sym is)
+    (λ room. next_before (expr_code library value t) (λ _. back ∷ []) n 1 s0 s1 s2 (λ _. refl) room f (g (omega (arith, room, start))))
 
 module _ (library : Bool) (t : ℕ) (e : Stmt) (x : Exits) where
   abbrev IsPut : PlainTail → PlainTail → Type 0
@@ -174,3 +187,18 @@ module _ (library : Bool) (t : ℕ) (e : Stmt) (x : Exits) where
       as_code s0 s4 (Switch line value cases other body) (n + k + 1 + m) _ is (switch_size line value cases other body)
       (switch_view_code library line value cases other body t at p end x refl last)
       (b3 ∙ ap (λ i. before (expr_code library value t i ++ (cases_code library line t index_of cases ++ (jump ∷ r1 (i + n + k + 1)))) s0) place)
+
+-- ---- the statement that is put is the one that was given
+
+abbrev IsPutIn : Inside → Stmt → (old new : PlainTail) → Type 0
+IsPutIn i e s0 s1 = PutsBefore (stmt_size e) (λ at. stmt_code i.place.library e i.place.t at (exits_of i.exits)) s0 s1
+
+pub put_same : (i : Inside) (d e : Stmt) (s0 s1 : PlainTail) → e ≡ d → IsPutIn i d s0 s1 → IsPutIn i e s0 s1
+put_same i d e s0 s1 is put = subst (λ (x : Stmt). IsPutIn i x s0 s1) (sym is) put
+
+-- and so where it is put for its own line
+pub put_as :
+    (p i : Inside) (line : ℕ) (d : ℕ → Stmt) (e : Stmt) (s0 s1 : PlainTail) → p ≡ inside_at i line → e ≡ d line →
+    IsPutIn p (d p.place.line) s0 s1 → IsPutIn i e s0 s1
+put_as p i line d e s0 s1 there is put =
+    put_same i (d line) e s0 s1 is (subst (λ (q : Inside). IsPutIn q (d q.place.line) s0 s1) there put)

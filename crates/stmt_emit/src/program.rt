@@ -6,9 +6,9 @@ ghost use Rattle.stmt_gen.specs.Programs.{function_code};
 ghost use Rattle.stmt_emit.specs.Compiled.{IsCodeOf, Plays};
 
 use crate::size::size_of_stmt;
-use crate::statement::{Exits, emit_stmt};
+use crate::statement::{Exits, Inside, emit_stmt};
 use c_tree::{FunctionDef, Program};
-use expr_emit::{Tail, put, sum};
+use expr_emit::{Place, Tail, put, sum};
 use std::alloc::{AllocError, Global};
 use whole_code::{Code, CodeFunction, Op};
 
@@ -21,17 +21,21 @@ fn emit_function(alloc: Global, function: &FunctionDef) -> Result<CodeFunction, 
     let size = size_of_stmt(&function.body)?;
     let mut tail = Tail::new(alloc, sum(size, 2)?);
     let zero = Op::Const { d: t, constant: 0 };
-    put(
-        &mut tail,
+    let place = Place {
         library,
-        function.line,
-        &[zero, Op::Return { a: t }],
-    )?;
-    let exits = Exits {
-        broke: size,
-        continued: size,
+        line: function.line,
+        t,
     };
-    emit_stmt(alloc, &mut tail, library, &function.body, t, exits)?;
+    put(&mut tail, place, &[zero, Op::Return { a: t }])?;
+    let inside = Inside {
+        heap: alloc,
+        place,
+        exits: Exits {
+            broke: size,
+            continued: size,
+        },
+    };
+    emit_stmt(&mut tail, inside, &function.body)?;
     Ok(CodeFunction {
         values: function.values,
         parameters: function.parameters,

@@ -1,6 +1,7 @@
 //! How long the code of a statement is. It is found once, before any code is put.
 
 ghost use Rattle.std.specs.Prelude.{◌≡◌, ◌+◌, IfOk};
+ghost use Rattle.expr_gen.specs.Code.{branch_size, expr_size};
 ghost use Rattle.stmt_gen.specs.Code.{local_size, locals_size, cases_size, return_size, stmt_size};
 ghost use Rattle.stmt_emit.specs.Lists.{statements_size};
 
@@ -65,6 +66,32 @@ fn size_of_statements(body: &[Stmt]) -> Result<u32, AllocError>
     Ok(size)
 }
 
+/// The size of a choice, where it fits: its parts, and a jump behind each but the last.
+#[cycle(size)]
+fn size_of_if(test: &Expr, one: &Stmt, last: &Stmt) -> Result<u32, AllocError>
+    ensures { IfOk result (λ n. n ≡
+        branch_size (expr_size test.now) (stmt_size one.now) (stmt_size last.now)) }
+{
+    let test = size_of_expr(test)?;
+    let one = size_of_stmt(one)?;
+    let other = size_of_stmt(last)?;
+    let size = sum(sum(sum(test, one)?, other)?, 2)?;
+    Ok(size)
+}
+
+/// The size of a switch, where it fits: its parts, and the jump to where no case leads.
+#[cycle(size)]
+fn size_of_switch(value: &Expr, cases: &[Case], body: &[Stmt]) -> Result<u32, AllocError>
+    ensures { IfOk result (λ n. n ≡
+        expr_size value.now + cases_size cases.now + 1 + statements_size body.now) }
+{
+    let value = size_of_expr(value)?;
+    let cases = size_of_cases(cases)?;
+    let body = size_of_statements(body)?;
+    let size = sum(sum(sum(value, cases)?, 1)?, body)?;
+    Ok(size)
+}
+
 /// The size of a statement, where it fits.
 #[cycle(size)]
 pub fn size_of_stmt(stmt: &Stmt) -> Result<u32, AllocError>
@@ -82,13 +109,7 @@ pub fn size_of_stmt(stmt: &Stmt) -> Result<u32, AllocError>
             then,
             otherwise,
             ..
-        } => {
-            let test = size_of_expr(test)?;
-            let one = size_of_stmt(then.get())?;
-            let other = size_of_stmt(otherwise.get())?;
-            let size = sum(sum(sum(test, one)?, other)?, 2)?;
-            Ok(size)
-        }
+        } => size_of_if(test, then.get(), otherwise.get()),
         Stmt::Loop { body, next, .. } => {
             let body = size_of_stmt(body.get())?;
             let next = size_of_stmt(next.get())?;
@@ -105,13 +126,7 @@ pub fn size_of_stmt(stmt: &Stmt) -> Result<u32, AllocError>
             cases,
             body,
             ..
-        } => {
-            let value = size_of_expr(value)?;
-            let cases = size_of_cases(cases.as_slice())?;
-            let body = size_of_statements(body.as_slice())?;
-            let size = sum(sum(sum(value, cases)?, 1)?, body)?;
-            Ok(size)
-        }
+        } => size_of_switch(value, cases.as_slice(), body.as_slice()),
         Stmt::Return { value, .. } => size_of_return(value),
     }
 }

@@ -1,5 +1,6 @@
 -- The sizes of a statement's parts are added up.
-use Rattle.std.proofs.Common.{ap, ◌∙◌, arith}
+use Rattle.std.proofs.Common.{◌≡◌, ◌+◌, sym, ap, ◌∙◌, subst, IfOk, arith}
+use Rattle.expr_gen.specs.Code.{branch_size, expr_size}
 use Rattle.stmt_gen.specs.Code.{locals_size, cases_size, stmt_size}
 use Rattle.stmt_emit.specs.Lists.{statements_size}
 use Rattle.stmt_emit.proofs.Views.{block_size, if_size, loop_size, switch_size}
@@ -18,21 +19,16 @@ size_of_stmt-returns-in_ok-size-in-Block t c =
       c.in_ok-size-in-Block.ensures,
     )
 
-pub size_of_stmt-returns-in_ok-size-in-If : goal.size_of_stmt-returns-in_ok-size-in-If
-size_of_stmt-returns-in_ok-size-in-If t c =
-    let whole = ap stmt_size c.in-If.is ∙ if_size c.in-If.line c.in-If.test c.in-If.then c.in-If.otherwise in
-    omega (
-      arith,
-      whole,
-      ap stmt_size c.get.ensures,
-      ap stmt_size c.get-in-If.ensures,
-      c.in_ok-test-in-If.ensures,
-      c.in_ok-one-in-If.ensures,
-      c.in_ok-other-in-If.ensures,
-      c.in_ok-sum-in-If.ensures,
-      c.in_ok-sum-in-If-2.ensures,
-      c.in_ok-size-in-If.ensures,
-    )
+pub size_of_stmt-returns-in-If : goal.size_of_stmt-returns-in-If
+size_of_stmt-returns-in-If t c =
+    let test = c.in-If.test in
+    let one = c.in-If.then in
+    let other = c.in-If.otherwise in
+    let same =
+    ap (λ s. branch_size (expr_size test) (stmt_size s) (stmt_size c.get-in-If.result.now)) c.get.ensures
+    ∙ ap (λ s. branch_size (expr_size test) (stmt_size one) (stmt_size s)) c.get-in-If.ensures
+    ∙ sym (if_size c.in-If.line test one other) ∙ ap stmt_size (sym c.in-If.is) in
+    subst (λ k. IfOk c.size_of_if.result (λ n. n ≡ k)) same c.size_of_if.ensures
 
 pub size_of_stmt-returns-in_ok-size-in-Loop : goal.size_of_stmt-returns-in_ok-size-in-Loop
 size_of_stmt-returns-in_ok-size-in-Loop t c =
@@ -48,18 +44,13 @@ size_of_stmt-returns-in_ok-size-in-Loop t c =
       c.in_ok-size-in-Loop.ensures,
     )
 
-pub size_of_stmt-returns-in_ok-size-in-Switch : goal.size_of_stmt-returns-in_ok-size-in-Switch
-size_of_stmt-returns-in_ok-size-in-Switch t c =
-    let whole = ap stmt_size c.in-Switch.is ∙ switch_size c.in-Switch.line c.in-Switch.value c.in-Switch.cases c.in-Switch.other c.in-Switch.body in
-    omega (
-      arith,
-      whole,
-      ap cases_size c.as_slice-in-Switch.ensures,
-      ap statements_size c.as_slice-in-Switch-2.ensures,
-      c.in_ok-value-in-Switch.ensures,
-      c.in_ok-cases-in-Switch.ensures,
-      c.in_ok-body-in-Switch.ensures,
-      c.in_ok-sum-in-Switch.ensures,
-      c.in_ok-sum-in-Switch-2.ensures,
-      c.in_ok-size-in-Switch.ensures,
-    )
+pub size_of_stmt-returns-in-Switch : goal.size_of_stmt-returns-in-Switch
+size_of_stmt-returns-in-Switch t c =
+    let value = c.in-Switch.value in
+    let cases = c.in-Switch.cases in
+    let body = c.in-Switch.body in
+    let same =
+    ap (λ l. expr_size value + cases_size l + 1 + statements_size c.as_slice-in-Switch-2.result.now) c.as_slice-in-Switch.ensures
+    ∙ ap (λ l. expr_size value + cases_size cases + 1 + statements_size l) c.as_slice-in-Switch-2.ensures
+    ∙ sym (switch_size c.in-Switch.line value cases c.in-Switch.other body) ∙ ap stmt_size (sym c.in-Switch.is) in
+    subst (λ k. IfOk c.size_of_switch.result (λ n. n ≡ k)) same c.size_of_switch.ensures

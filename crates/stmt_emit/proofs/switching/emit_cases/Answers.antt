@@ -14,5 +14,5 @@ loop-index-preserved c =
     let above : j ≡ (j - 1) + 1 = omega (arith, c.loop-index-test.true) in
     let within : j - 1 < length l = omega (arith, c.loop-index-test.true, c.loop-index.auto.index) in
     let more : drop (j - 1) l ≡ x ∷ drop j l = drop_more l (j - 1) d within ∙ ap (λ k. x ∷ drop k l) (sym above) in
-    cases_step c.args.library c.args.line c.args.t (λ n. slice_index_or c.args.starts.now n c.args.end) (j - 1) j c.start_of-target.result l x
+    cases_step c.args.place.library c.args.place.line c.args.place.t (λ n. slice_index_or c.args.starts.now n c.args.end) (j - 1) j c.start_of-target.result l x
     c.args.tail.now c.loop-index.tail c.emit_case.new.tail more c.start_of-target.ensures c.loop-index.invariant c.in_ok-emit_case.ensures

@@ -6,4 +6,4 @@ use Rattle.stmt_emit.proofs.switching.emit_cases.Given as goal
 
 abbrev pub invariant-loop-index : goal.invariant-loop-index
 invariant-loop-index l =
-    l.tail ≡ before (cases_code l.library l.line l.t (λ n. slice_index_or l.starts n l.end) (drop l.index l.cases)) l.fn.tail
+    l.tail ≡ before (cases_code l.place.library l.place.line l.place.t (λ n. slice_index_or l.starts n l.end) (drop l.index l.cases)) l.fn.tail
