@@ -1,7 +1,7 @@
 -- A file has one answer.
 use Rattle.std.proofs.Common.{◌≡◌, sym, subst, ◌∙◌}
 use Rattle.c_syntax.specs.declared.file.File.{File}
-use Rattle.c_check_expr.specs.Outcomes.{Broken, Checked, Fine, Breaks, Broke}
+use Rattle.c_expr_rules.specs.Outcomes.{Broken, Checked, Fine, Breaks, Broke}
 use Rattle.c_check.specs.Files.{Tokens, Whole, Stops, file_answer}
 use Rattle.c_check.specs.Laws.{HasOneAnswer}
 

@@ -1,6 +1,6 @@
 -- Small files whose answers were worked out by hand, which the checker computes. Each has a `main` behind it, but where
 -- a row says so.
-use Rattle.std.proofs.Common.{◌≡◌, ℕ, true, false, List, [], ◌∷◌, replicate, refl}
+use Rattle.std.proofs.Common.{◌≡◌, ℕ, false, List, [], ◌∷◌, replicate, refl}
 use Rattle.std.specs.Prelude.{◌==◌, ◌++◌, map, codes, if◌then◌else◌, Option, Some, None}
 use Rattle.std.specs.List.{fold}
 use Rattle.filc_num.specs.declared.c_int_type.CIntType.TheVariants as kind
@@ -14,8 +14,8 @@ use Rattle.c_syntax.specs.declared.file.External.{External}
 use Rattle.c_syntax.specs.declared.file.External.TheVariants as e
 use Rattle.c_syntax.specs.declared.file.StatementKind.TheVariants as s
 use Rattle.c_syntax.specs.declared.expr.TypeName.{TypeName'}
-use Rattle.c_check_expr.specs.Outcomes.{Checked, Fine, Breaks, Broke}
-use Rattle.c_check_expr.proofs.WrittenExpressions.{at, name, number, text, parens, before, after, called, called_with, pair, divide, add, equal, size_of, size_of_type}
+use Rattle.c_expr_rules.specs.Outcomes.{Checked, Fine, Breaks, Broke}
+use Rattle.c_expr_rules.proofs.WrittenExpressions.{at, name, number, text, parens, before, after, called, called_with, pair, divide, add, equal, size_of, size_of_type}
 use denote.Hole.Carrier.{out, roll, hidden, shown}
 use native.Mathlib.Decide.{ℕ_discrete, dec_le}
 use Rattle.c_syntax.specs.declared.expr.Core.TheViews.{roll-Specifiers, out-Specifiers, roll-Declarator, out-Declarator, roll-EnumConstant, roll-Parameter}
@@ -39,12 +39,12 @@ use Rattle.c_tree.specs.declared.operation.Operation.TheVariants as op
 use Rattle.c_tree.specs.declared.operation.Access.TheVariants as access
 use Rattle.c_tree.specs.declared.stmt.Stmt.TheVariants as stmt
 use Rattle.c_tree.specs.declared.stmt.LocalKind.TheVariants as local
-use Rattle.c_check_expr.specs.TypedExpressions.{tree_of, with_operation, leaf}
+use Rattle.c_expr_rules.specs.TypedExpressions.{tree_of, with_operation, leaf}
 use Rattle.c_check.specs.Statements.{set_local}
 use Rattle.c_check.specs.Statics.{PlainStatic}
 use Rattle.c_check.specs.Functions.{Made}
 use Rattle.c_check.specs.Kinds.{kinds_in, with_kind}
-use Rattle.c_check.specs.Files.{Tokens, Ahead, Whole, around_of, start_state, closed, functions_in, file_checked, nothing_known, known_at}
+use Rattle.c_check.specs.Files.{Tokens, Ahead, Whole, start_state, closed, functions_in, file_checked, nothing_known, known_at}
 use Rattle.c_check.proofs.WrittenFiles.{specs, int_at, char_at, void_at, stored, struct_tag, union_tag, struct_of, nameless_struct, union_of, enum_of, constant_at, constant_is, plain, pointer_to, array, open_array, takes, parameter, member, int_member, bare, with_value, with_list, declares, declares_one, assertion, does, here, value, switch_on, switch_does, case_of, default, function_at, in_f, main_function, nameless, asserting, declaration, for_with, locals_from, function_pointer}
 
 data Seen : Type 0 where
@@ -689,7 +689,7 @@ values_of_a_declarator = refl
 -- a whole file of so many functions of so many values, and of a static object of so many words
 abbrev closed_with : (functions values words : ℕ) → Option ℕ → Seen
 closed_with functions values words main =
-    seen_of (closed (start_state (around_of tokens nothing_known [] None) 0) (record {
+    seen_of (closed (start_state 0) (record {
       functions = replicate functions (record {
         function = record {
           line = 3;

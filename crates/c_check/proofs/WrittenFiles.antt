@@ -35,7 +35,7 @@ use Rattle.c_syntax.specs.declared.file.External.{External}
 use Rattle.c_syntax.specs.declared.file.External.TheVariants as e
 use Rattle.c_syntax.specs.Values.{specifier_of, specifiers_of, constant_of, pointer_of, name_core, declarator_of, suffix_of, parameter_of, member_of}
 use Rattle.c_syntax.specs.Files.{statement_of, block_of}
-use Rattle.c_check_expr.proofs.WrittenExpressions.{at, number}
+use Rattle.c_expr_rules.proofs.WrittenExpressions.{at, number}
 
 -- ---- specifiers
 

@@ -2,8 +2,8 @@
 use Rattle.std.specs.Prelude.{ℕ, Bool, List, [], ◌∷◌, ◌++◌, if◌then◌else◌, Option, Some, None}
 use Rattle.c_rules.specs.declared.rule.Rule.{Rule as CRule}
 use Rattle.c_rules.specs.Rules.{number_of}
-use Rattle.c_check_expr.specs.Expressions.{Around}
-use Rattle.c_check_expr.specs.Outcomes.{State, Checked, Fine, next, outcome_of}
+use Rattle.c_expr_rules.specs.Expressions.{Around}
+use Rattle.c_expr_rules.specs.Outcomes.{State, Checked, Fine, next, outcome_of}
 
 -- what each of a list gives, in order
 abbrev pub in_order : {A B : Type 0} → (State → A → Checked (List B)) → State → List A → Checked (List B)

@@ -33,10 +33,11 @@ use Rattle.c_declarations.specs.Declarations.{known_rule}
 use Rattle.c_declarations.specs.ParameterTypes.{parameters_in, rule_of_list}
 use Rattle.c_declarators.specs.Parameters.{says_none}
 use Rattle.c_scope.specs.Scopes.{Names}
-use Rattle.c_check_expr.specs.Outcomes.{State, Checked, Fine, Rule, next, by_rules, ◌breaks◌}
-use Rattle.c_check_expr.specs.TypedExpressions.{Typed, type_at}
-use Rattle.c_check_expr.specs.Operators.{kind_in}
-use Rattle.c_check_expr.specs.Contexts.{is_integer_constant}
+use Rattle.c_expr_rules.specs.Outcomes.{State, Checked, Fine, Rule, next, by_rules, ◌breaks◌}
+use Rattle.c_expr_rules.specs.TypedExpressions.{type_at}
+use Rattle.c_expr_rules.specs.declared.typed.Typed.{Typed}
+use Rattle.c_expr_rules.specs.Operators.{kind_in}
+use Rattle.c_expr_rules.specs.Contexts.{is_integer_constant}
 use Rattle.c_check.specs.Types.{Table, count_of, derived, parameter_list, adjusted}
 use Rattle.c_check.specs.Naming.{is_again, declares, with_types}
 use Rattle.c_check.specs.Constructs.{Here}

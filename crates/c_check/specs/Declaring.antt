@@ -39,9 +39,10 @@ use Rattle.c_specifiers.specs.declared.list.Standing.{Standing}
 use Rattle.c_specifiers.specs.declared.list.Standing.TheVariants as standing
 use Rattle.c_declarators.specs.Outermost.{ends_open, with_outermost}
 use Rattle.c_scope.specs.Again.{is_linked, has_linkage}
-use Rattle.c_check_expr.specs.Above.{Fill, Placed}
-use Rattle.c_check_expr.specs.Outcomes.{State, Checked, Fine, Rule, next, by_rules, also_if_broken, ◌breaks◌}
-use Rattle.c_check_expr.specs.TypedExpressions.{type_at, always_has_home, size_of, or_zero}
+use Rattle.c_expr_rules.specs.declared.above.Fill.{Fill}
+use Rattle.c_expr_rules.specs.declared.above.Placed.{Placed}
+use Rattle.c_expr_rules.specs.Outcomes.{State, Checked, Fine, Rule, next, by_rules, also_if_broken, ◌breaks◌}
+use Rattle.c_expr_rules.specs.TypedExpressions.{type_at, always_has_home, size_of, or_zero}
 use Rattle.c_check.specs.Constructs.{Here, in_order}
 use Rattle.c_check.specs.Naming.{is_again, is_again_by_any_type, declares, linked}
 use Rattle.c_check.specs.Types.{count_of}

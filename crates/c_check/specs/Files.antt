@@ -2,7 +2,7 @@
 --
 -- construct                     rules, the lowest first
 -- the whole file, in this order 34 35 39 37 38 36
-use Rattle.std.specs.Prelude.{◌≡◌, ℕ, zero, suc, ◌==◌, nat_lt, min, Bool, true, false, is_none, List, [], ◌∷◌, map, length, sum_by, codes, slice_get, if◌then◌else◌, Option, Some, None}
+use Rattle.std.specs.Prelude.{◌≡◌, ℕ, zero, suc, ◌==◌, nat_lt, min, Bool, true, false, is_none, List, [], ◌∷◌, map, length, sum_by, codes, if◌then◌else◌, Option, Some, None}
 use Rattle.std.specs.List.{filter_map}
 use Rattle.std.specs.Option.{option_or}
 use Rattle.std.specs.Str.{bytes_eq}
@@ -21,9 +21,9 @@ use Rattle.c_tree.specs.declared.program.FunctionDef.{FunctionDef}
 use Rattle.c_tree.specs.Plain.{PlainProgram}
 use Rattle.c_scope.specs.Blocks.{Naming, innermost}
 use Rattle.c_specifiers.specs.declared.list.Standing.TheVariants as standing
-use Rattle.c_check_expr.specs.Outcomes.{Broken, State, Checked, Fine, Breaks, Broke, next}
-use Rattle.c_check_expr.specs.Expressions.{Around}
-use Rattle.c_check_expr.specs.Contexts.{assertion_constant}
+use Rattle.c_expr_rules.specs.Outcomes.{Broken, State, Checked, Fine, Breaks, Broke, next}
+use Rattle.c_expr_rules.specs.Expressions.{Around}
+use Rattle.c_expr_rules.specs.Contexts.{assertion_constant}
 use Rattle.c_check.specs.Constructs.{Here, in_order}
 use Rattle.c_check.specs.Naming.{with_names}
 use Rattle.c_check.specs.Specifiers.{no_type_named, with_named_types}
@@ -34,7 +34,7 @@ use Rattle.filc_num.specs.declared.c_int_type.CIntType.TheVariants as kind
 use Rattle.c_types.specs.declared.ctype.CType.TheVariants.{Integer}
 use Rattle.c_types.specs.declared.ctype.ElementCount.{ElementCount}
 use Rattle.c_types.specs.declared.derivation.Derivation.TheVariants as derivation
-use Rattle.c_check_expr.specs.Calls.{Printer}
+use Rattle.c_expr_rules.specs.declared.printer.Printer.{Printer}
 use Rattle.c_check.specs.Types.{Table, count_of, with_type, derived, qualified}
 use Rattle.c_check.specs.Operations.{operation_at, bodiless_number, start_of, thread_type}
 use Rattle.c_check.specs.Kinds.{types_of_functions}
@@ -214,11 +214,11 @@ here_of t ahead bodies printer =
     })
 
 -- a file's begin
-abbrev pub start_state : Around → (bodies : ℕ) → State
-start_state around bodies =
+abbrev pub start_state : (bodies : ℕ) → State
+start_state bodies =
     let start = start_of bodies in
-    with_names around start.1 (record {
-      visible = (λ n. None);
+    with_names start.1 (record {
+      visible = (λ letters. None);
       table = start.0;
       contents = (λ n. None);
       next_static = 0;
@@ -247,7 +247,7 @@ abbrev pub file_checked : Tokens → Ahead → File → Checked Whole
 file_checked t ahead file =
     let bodies = bodies_of file in
     next (in_order (λ s x. external_checked (here_of t ahead bodies (printer_in (length bodies) s)) ahead.taken s x)
-    (start_state (around_of t ahead bodies None) (length bodies)) file.items)
+    (start_state (length bodies)) file.items)
     (λ s functions. closed s (whole_of t bodies s functions))
 
 -- ---- a file is read twice

@@ -18,8 +18,8 @@ use Rattle.c_tree.specs.declared.stmt.Stmt.{Stmt}
 use Rattle.c_scope.specs.Blocks.{innermost}
 use Rattle.c_scope.specs.Scopes.{Names, with_block}
 use Rattle.c_specifiers.specs.declared.list.Standing.TheVariants as standing
-use Rattle.c_check_expr.specs.Outcomes.{State, Checked, Fine, Rule, next, ◌breaks◌}
-use Rattle.c_check_expr.specs.TypedExpressions.{type_at, always_has_home, access_of, size_of, or_zero}
+use Rattle.c_expr_rules.specs.Outcomes.{State, Checked, Fine, Rule, next, ◌breaks◌}
+use Rattle.c_expr_rules.specs.TypedExpressions.{type_at, always_has_home, access_of, size_of, or_zero}
 use Rattle.c_check.specs.Constructs.{Here, in_order}
 use Rattle.c_check.specs.Naming.{with_names, declares, leaves}
 use Rattle.c_check.specs.Declarators.{Listed, Prototype, is_function_declared, declarator_type, line_of, name_of}
@@ -76,7 +76,7 @@ inside_function s p = record { may_break = false; may_continue = false; result =
 -- at a body's begin: its parameters are its first locals
 abbrev pub at_body : Here → Option Prototype → State → State
 at_body here prototype s =
-    let inside = with_names here.around (body_names prototype s.above.names) s in
+    let inside = with_names (body_names prototype s.above.names) s in
     let count = length (listed_in prototype) in
     record inside {
       taken =
@@ -150,5 +150,5 @@ function_checked here taken s f =
     let again = is_name_again here standing.Definition said line true name s d.derivations in
     next (declarator_type line again s said.ty d.derivations (function_rules here f.declarator name what)) (λ s p.
     let begin = at_body inner d.prototype (declares here.around s name (what s p)) in
-    next (leaves here.around (next (body_checked inner (inside_function s p) begin f.body) (λ s tree.
+    next (leaves (next (body_checked inner (inside_function s p) begin f.body) (λ s tree.
     function_of inner f p d.prototype s tree))) (λ s made. Fine (with_locals [] s) made))))

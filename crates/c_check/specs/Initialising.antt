@@ -25,16 +25,19 @@ use Rattle.c_types.specs.declared.ctype.Part.{Part}
 use Rattle.c_tree.specs.declared.declared.DeclaredObject.{DeclaredObject}
 use Rattle.c_tree.specs.declared.stmt.Stmt.{Stmt}
 use Rattle.c_tree.specs.declared.stmt.Stmt.TheVariants as stmt
-use Rattle.c_check_expr.specs.declared.known.Known.{Known}
-use Rattle.c_check_expr.specs.declared.known.Known.TheVariants as known
-use Rattle.c_check_expr.specs.Above.{Fill}
-use Rattle.c_check_expr.specs.IntegerTypes.{integer_kind}
-use Rattle.c_check_expr.specs.Outcomes.{State, MemberPlace, Contents, Checked, Fine, Rule, next, by_rules, ◌breaks◌}
-use Rattle.c_check_expr.specs.TypedExpressions.{Typed, tree_of, constant, type_at, is_array, is_record, size_of, or_zero}
-use Rattle.c_check_expr.specs.Converting.{conversion, or_itself}
-use Rattle.c_check_expr.specs.Operators.{assigned_value}
-use Rattle.c_check_expr.specs.Expressions.{Around, object_typed, part_at, is_text, is_too_long, typed_value}
-use Rattle.c_check_expr.specs.Contexts.{without_fault}
+use Rattle.c_expr_rules.specs.declared.known.Known.{Known}
+use Rattle.c_expr_rules.specs.declared.known.Known.TheVariants as known
+use Rattle.c_expr_rules.specs.declared.above.Fill.{Fill}
+use Rattle.c_expr_rules.specs.IntegerTypes.{integer_kind}
+use Rattle.c_expr_rules.specs.Outcomes.{State, Checked, Fine, Rule, next, by_rules, ◌breaks◌}
+use Rattle.c_expr_rules.specs.declared.state.MemberPlace.{MemberPlace}
+use Rattle.c_expr_rules.specs.declared.state.Contents.{Contents}
+use Rattle.c_expr_rules.specs.TypedExpressions.{tree_of, constant, type_at, is_array, is_record, size_of, or_zero}
+use Rattle.c_expr_rules.specs.declared.typed.Typed.{Typed}
+use Rattle.c_expr_rules.specs.Converting.{conversion, or_itself}
+use Rattle.c_expr_rules.specs.Operators.{assigned_value}
+use Rattle.c_expr_rules.specs.Expressions.{Around, object_typed, part_at, is_text, is_too_long, typed_value}
+use Rattle.c_expr_rules.specs.Contexts.{without_fault}
 
 -- what is filled: an object, or a part of it that lies so many bytes behind its first
 pub record Target : Type 0 where

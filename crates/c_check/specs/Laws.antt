@@ -8,7 +8,7 @@ use Rattle.c_types.specs.Declarators.{shape_at, Keeps, IsPlain, IsDerived, IsPar
 use Rattle.c_types.specs.Derivations.{lowest_rule}
 use Rattle.c_types.specs.Whole.{IsTypeAt, IsPart, DerivationFits}
 use Rattle.c_tree.specs.Plain.{PlainProgram}
-use Rattle.c_check_expr.specs.Outcomes.{Broken}
+use Rattle.c_expr_rules.specs.Outcomes.{Broken}
 use Rattle.c_check.specs.Types.{Table, with_type, type_of_part, derived_each, derived, list_from, parameter_list, adjusted_as, adjusted}
 use Rattle.c_check.specs.Files.{Tokens, IsProgramOf, IsRefused}
 

@@ -7,29 +7,29 @@ use Rattle.c_types.specs.declared.entry.Entry.{Entry}
 use Rattle.c_scope.specs.Again.{has_linkage}
 use Rattle.c_scope.specs.Blocks.{Naming, visible, declared_in, innermost}
 use Rattle.c_scope.specs.Scopes.{Names, with_block, without_block, with_name, space_of, declaration_in}
-use Rattle.c_check_expr.specs.Outcomes.{State, Checked, Fine, Breaks, Broke}
-use Rattle.c_check_expr.specs.Expressions.{Around}
+use Rattle.c_expr_rules.specs.Outcomes.{State, Checked, Fine, Breaks, Broke}
+use Rattle.c_expr_rules.specs.Expressions.{Around}
 
--- these names, and what each number stands for by them
-abbrev pub with_names : Around → Names → State → State
-with_names around names s =
-    record s { above = record s.above { names = names }; visible = (λ n. visible (around.spelling n) names.ordinary) }
+-- these names, and what letters stand for by them
+abbrev pub with_names : Names → State → State
+with_names names s =
+    record s { above = record s.above { names = names }; visible = (λ letters. visible letters names.ordinary) }
 
-abbrev pub in_scope : Around → State → State
-in_scope around s = with_names around (with_block s.above.names) s
+abbrev pub in_scope : State → State
+in_scope s = with_names (with_block s.above.names) s
 
-abbrev pub out_of_scope : Around → State → State
-out_of_scope around s = with_names around (without_block s.above.names) s
+abbrev pub out_of_scope : State → State
+out_of_scope s = with_names (without_block s.above.names) s
 
 -- what is found in a block is left as what is found
-abbrev pub leaves : {A : Type 0} → Around → Checked A → Checked A
-leaves around (Fine s x) = Fine (out_of_scope around s) x
-leaves around (Breaks broken s known) = Breaks broken (out_of_scope around s) known
-leaves around (Broke broken) = Broke broken
+abbrev pub leaves : {A : Type 0} → Checked A → Checked A
+leaves (Fine s x) = Fine (out_of_scope s) x
+leaves (Breaks broken s known) = Breaks broken (out_of_scope s) known
+leaves (Broke broken) = Broke broken
 
 -- what a scope of its own has
-abbrev pub scoped : {A : Type 0} → Around → State → (State → Checked A) → Checked A
-scoped around s inside = leaves around (inside (in_scope around s))
+abbrev pub scoped : {A : Type 0} → State → (State → Checked A) → Checked A
+scoped s inside = leaves (inside (in_scope s))
 
 abbrev pub naming : Around → ℕ → Declared → Naming
 naming around name what = record { name = around.spelling name; what = what }
@@ -44,7 +44,7 @@ is_again around s name what = is_none (declaration around s name what)
 abbrev pub with_declared : Around → State → ℕ → Option Declared → State
 with_declared around s name None = s
 with_declared around s name (Some what) =
-    with_names around (with_name (space_of what) (naming around name what) s.above.names) s
+    with_names (with_name (space_of what) (naming around name what) s.above.names) s
 
 -- the state with it, which is the same one where it is declared again
 abbrev pub declares : Around → State → ℕ → Declared → State

@@ -17,8 +17,8 @@ use Rattle.c_tree.specs.declared.operation.Operation.TheVariants as op
 use Rattle.c_tree.specs.declared.declared.Declared.TheVariants as declared
 use Rattle.c_tree.specs.declared.declared.Linkage.TheVariants.{External}
 use Rattle.c_scope.specs.Scopes.{Names, no_names, with_name, space_of}
-use Rattle.c_check_expr.specs.Outcomes.{State}
-use Rattle.c_check_expr.specs.TypedExpressions.{part_of, type_at}
+use Rattle.c_expr_rules.specs.Outcomes.{State}
+use Rattle.c_expr_rules.specs.TypedExpressions.{part_of, type_at}
 use Rattle.c_check.specs.Types.{Table, with_type, derived, parameter_list}
 
 -- ---- their types, as they are written

@@ -9,9 +9,9 @@ use Rattle.c_tree.specs.declared.declared.Declared.TheVariants as declared
 use Rattle.c_tree.specs.declared.declared.ObjectNumber.{ObjectNumber}
 use Rattle.c_tree.specs.declared.declared.ObjectNumber.TheVariants.{Static, Local}
 use Rattle.c_scope.specs.Blocks.{visible}
-use Rattle.c_check_expr.specs.Outcomes.{State}
-use Rattle.c_check_expr.specs.TypedExpressions.{type_at}
-use Rattle.c_check_expr.specs.Calls.{Printer}
+use Rattle.c_expr_rules.specs.Outcomes.{State}
+use Rattle.c_expr_rules.specs.TypedExpressions.{type_at}
+use Rattle.c_expr_rules.specs.declared.printer.Printer.{Printer}
 use Rattle.c_check.specs.Operations.{takes_nothing}
 
 abbrev pub takes_so_many : (count : ℕ) → State → Option Entry → Bool

@@ -45,10 +45,10 @@ use Rattle.c_type_rules.specs.Atomic.{atomic_type}
 use Rattle.c_declarations.specs.Specified.{lowest, rule_of_specifiers, storage_in_list, named_in_list, set_in_list}
 use Rattle.c_declarations.specs.declared.specifier_list.Named.{Named}
 use Rattle.c_declarations.specs.declared.specifier_list.Named.TheVariants as named
-use Rattle.c_check_expr.specs.Outcomes.{State, Checked, Fine, next, by_rules, ◌breaks◌}
-use Rattle.c_check_expr.specs.TypedExpressions.{type_at, part_of}
-use Rattle.c_check_expr.specs.Expressions.{Around}
-use Rattle.c_check_expr.specs.Contexts.{constant_in, enumeration_constant, assertion_constant, without_fault}
+use Rattle.c_expr_rules.specs.Outcomes.{State, Checked, Fine, next, by_rules, ◌breaks◌}
+use Rattle.c_expr_rules.specs.TypedExpressions.{type_at, part_of}
+use Rattle.c_expr_rules.specs.Expressions.{Around}
+use Rattle.c_expr_rules.specs.Contexts.{constant_in, enumeration_constant, assertion_constant, without_fault}
 use Rattle.c_scope.specs.Blocks.{innermost}
 use Rattle.c_check.specs.Types.{Table, with_type, qualified}
 use Rattle.c_check.specs.Naming.{in_scope, out_of_scope, with_types}
@@ -185,7 +185,7 @@ abbrev mutual
   specifier_found here is_alone s p (Atomic' z (more_of-TypeName ty end_of-TypeName)) =
       next (type_said here s ty) (λ s said. Fine s (atomic_found s said p))
   specifier_found here is_alone s p (TypedefName name) =
-      Fine s (typedef_found here s name (typedef_type (s.visible name)) p)
+      Fine s (typedef_found here s name (typedef_type (s.visible (here.around.spelling name))) p)
   specifier_found here is_alone s p (Record' word name NoMembers) =
       let found = tag_alone here s is_alone (kind_of_word word) name p in Fine found.0 found.1
   specifier_found here is_alone s p (Record' word name (Members z members)) =
@@ -260,8 +260,8 @@ abbrev mutual
       next (without_fault here.around s (expr_of (s1, k1))) (λ s t.
       Fine s (array_formed (size_derivation t (constant_in t.known))))
   suffix_formed here s (Function' z parameters scope) =
-      next (parameters_found here (in_scope here.around s) [] parameters) (λ s listed.
-      let made = function_formed (out_of_scope here.around s) s.above.names listed in Fine made.0 made.1)
+      next (parameters_found here (in_scope s) [] parameters) (λ s listed.
+      let made = function_formed (out_of_scope s) s.above.names listed in Fine made.0 made.1)
 
   pub parameters_found : {m : _} → Here → State → List Listed → Row_of-Parameter m → Checked (List Listed)
   parameters_found here s so_far end_of-Parameter = Fine s so_far

@@ -34,11 +34,11 @@ use Rattle.c_tree.specs.declared.stmt.Stmt.TheVariants as stmt
 use Rattle.c_tree.specs.declared.stmt.Case.{Case as CaseOf}
 use Rattle.c_tree.specs.declared.stmt.LocalDef.{LocalDef}
 use Rattle.c_specifiers.specs.declared.list.Standing.TheVariants as standing
-use Rattle.c_check_expr.specs.Outcomes.{State, Checked, Fine, next, by_rules, ◌breaks◌}
-use Rattle.c_check_expr.specs.TypedExpressions.{tree_of, is_void, type_at}
-use Rattle.c_check_expr.specs.Operators.{kind_in}
-use Rattle.c_check_expr.specs.Expressions.{typed_value}
-use Rattle.c_check_expr.specs.Contexts.{condition, switch_value, result, assertion_constant, case_constant, constant_in}
+use Rattle.c_expr_rules.specs.Outcomes.{State, Checked, Fine, next, by_rules, ◌breaks◌}
+use Rattle.c_expr_rules.specs.TypedExpressions.{tree_of, is_void, type_at}
+use Rattle.c_expr_rules.specs.Operators.{kind_in}
+use Rattle.c_expr_rules.specs.Expressions.{typed_value}
+use Rattle.c_expr_rules.specs.Contexts.{condition, switch_value, result, assertion_constant, case_constant, constant_in}
 use Rattle.c_check.specs.Naming.{scoped}
 use Rattle.c_check.specs.Constructs.{Here}
 use Rattle.c_check.specs.Declaring.{declaration_checked}
@@ -69,7 +69,7 @@ block_of outer s statements = Fine (with_locals outer s) (stmt.Block (reverse s.
 -- a scope whose locals are a block's
 abbrev pub block_with : Here → State → (State → Checked (List Stmt)) → Checked Stmt
 block_with here s inside =
-    next (scoped here.around (with_locals [] s) inside) (λ after statements. block_of s.above.locals after statements)
+    next (scoped (with_locals [] s) inside) (λ after statements. block_of s.above.locals after statements)
 
 -- ---- expressions in statements
 
@@ -162,29 +162,29 @@ abbrev mutual
   statement_checked here i s span Empty = Fine s nothing_done
   statement_checked here i s span (Expression e) = run_value here s e
   statement_checked here i s span (If' e p (more_of-Statement s1 k1 end_of-Statement) NoElse) =
-      scoped here.around s (λ s. next (condition here.around s e) (λ s t.
-      next (scoped here.around s (λ s. statement_checked here i s s1 k1)) (λ s one. Fine s (stmt.If span.line (tree_of t.made) one nothing_done))))
+      scoped s (λ s. next (condition here.around s e) (λ s t.
+      next (scoped s (λ s. statement_checked here i s s1 k1)) (λ s one. Fine s (stmt.If span.line (tree_of t.made) one nothing_done))))
   statement_checked here i s span (If' e p (more_of-Statement s1 k1 end_of-Statement) (Else' q
       (more_of-Statement s2 k2 end_of-Statement))) =
-      scoped here.around s (λ s. next (condition here.around s e) (λ s t.
-      next (scoped here.around s (λ s. statement_checked here i s s1 k1)) (λ s one.
-      next (scoped here.around s (λ s. statement_checked here i s s2 k2)) (λ s other. Fine s (stmt.If span.line (tree_of t.made) one other)))))
+      scoped s (λ s. next (condition here.around s e) (λ s t.
+      next (scoped s (λ s. statement_checked here i s s1 k1)) (λ s one.
+      next (scoped s (λ s. statement_checked here i s s2 k2)) (λ s other. Fine s (stmt.If span.line (tree_of t.made) one other)))))
   statement_checked here i s span (While' e p (more_of-Statement s1 k1 end_of-Statement)) =
-      scoped here.around s (λ s. next (tested here s e) (λ s test.
-      next (scoped here.around s (λ s. statement_checked here (in_loop i) s s1 k1)) (λ s body.
+      scoped s (λ s. next (tested here s e) (λ s test.
+      next (scoped s (λ s. statement_checked here (in_loop i) s s1 k1)) (λ s body.
       Fine s (stmt.Loop span.line (stmt.Block [] (test ++ body ∷ [])) nothing_done))))
   statement_checked here i s span (Do' p (more_of-Statement s1 k1 end_of-Statement) e) =
-      scoped here.around s (λ s. next (scoped here.around s (λ s. statement_checked here (in_loop i) s s1 k1)) (λ s body.
+      scoped s (λ s. next (scoped s (λ s. statement_checked here (in_loop i) s s1 k1)) (λ s body.
       next (condition here.around s e) (λ s t.
       Fine s (stmt.Loop span.line body (stmt.BreakUnless e.span.line (tree_of t.made))))))
   statement_checked here i s span (For' start test step p (more_of-Statement s1 k1 end_of-Statement)) =
       block_with here s (λ s. next (start_done here s start) (λ s first.
       next (optionally_tested here s test) (λ s test.
       next (optional_run here s step) (λ s step.
-      next (scoped here.around s (λ s. statement_checked here (in_loop i) s s1 k1)) (λ s body.
+      next (scoped s (λ s. statement_checked here (in_loop i) s s1 k1)) (λ s body.
       Fine s (first ++ stmt.Loop span.line (stmt.Block [] (test ++ body ∷ [])) (stmt.Block [] step) ∷ []))))))
   statement_checked here i s span (Switch' e z items) =
-      scoped here.around s (λ s. next (switch_value here.around s e) (λ s t.
+      scoped s (λ s. next (switch_value here.around s e) (λ s t.
       let local = s.above.next_local in
       next (block_with here (with_switch_local s) (λ s.
       next (switch_checked here (in_switch i) (kind_in t) s nothing_switched items)

@@ -5,8 +5,11 @@ use Rattle.std.specs.List.{find}
 use Rattle.filc_num.specs.Statics.{payload_words_of}
 use Rattle.filc_num.specs.declared.statics.StaticHalf.{StaticHalf}
 use Rattle.filc_num.specs.declared.statics.StaticHalf.TheVariants as half
-use Rattle.c_check_expr.specs.Above.{Fill, Filled, Placed}
-use Rattle.c_check_expr.specs.Outcomes.{State, Literal}
+use Rattle.c_expr_rules.specs.declared.above.Fill.{Fill}
+use Rattle.c_expr_rules.specs.declared.above.Filled.{Filled}
+use Rattle.c_expr_rules.specs.declared.above.Placed.{Placed}
+use Rattle.c_expr_rules.specs.Outcomes.{State}
+use Rattle.c_expr_rules.specs.declared.state.Literal.{Literal}
 
 pub record PlainStatic : Type 0 where
   pub bytes : ℕ

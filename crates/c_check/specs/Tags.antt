@@ -23,9 +23,12 @@ use Rattle.c_specifiers.specs.declared.names.NameFault.{NameFault}
 use Rattle.c_specifiers.specs.NamesOfTypes.{tag_type, same_tag}
 use Rattle.c_type_rules.specs.Members.{rule_of_member, rule_of_room, member_types}
 use Rattle.c_declarations.specs.Specified.{lowest}
-use Rattle.c_check_expr.specs.Outcomes.{State, MemberPlace, Contents, Checked, Fine, Rule, by_rules, ◌breaks◌}
-use Rattle.c_check_expr.specs.TypedExpressions.{Typed, type_at, is_const, record_number, part_of}
-use Rattle.c_check_expr.specs.Operators.{has_const, contents_of}
+use Rattle.c_expr_rules.specs.Outcomes.{State, Checked, Fine, Rule, by_rules, ◌breaks◌}
+use Rattle.c_expr_rules.specs.declared.state.MemberPlace.{MemberPlace}
+use Rattle.c_expr_rules.specs.declared.state.Contents.{Contents}
+use Rattle.c_expr_rules.specs.TypedExpressions.{type_at, is_const, record_number, part_of}
+use Rattle.c_expr_rules.specs.declared.typed.Typed.{Typed}
+use Rattle.c_expr_rules.specs.Operators.{has_const, contents_of}
 use Rattle.c_check.specs.Constructs.{when}
 use Rattle.c_check.specs.Types.{new_tag_type, completed}
 use Rattle.c_check.specs.Naming.{is_again, declares, tag_visible, tag_here, with_types}

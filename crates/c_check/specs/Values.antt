@@ -12,7 +12,7 @@ use Rattle.c_syntax.specs.declared.file.SwitchItem.{SwitchItem, Case, Default, D
 use Rattle.c_syntax.specs.declared.file.ForStart.{ForStart}
 use Rattle.c_syntax.specs.declared.file.Function.{Function}
 use Rattle.c_syntax.specs.declared.file.ForStart.TheVariants.{Declaration as StartDeclaration, Expression as StartExpression}
-use Rattle.c_check_expr.specs.Temporaries.{temporaries_of, specifiers_temporaries, declarator_temporaries}
+use Rattle.c_expr_rules.specs.Temporaries.{temporaries_of, specifiers_temporaries, declarator_temporaries}
 
 abbrev pub optional_temporaries : Option Expr → ℕ
 optional_temporaries None = 0

@@ -1,4 +1,0 @@
-mod CommonKinds
-mod Converted
-pub mod WrittenExpressions
-pub mod Rows

@@ -1,0 +1,16 @@
+pub mod Above
+pub mod Outcomes
+pub mod IntegerTypes
+pub mod Constants
+pub mod TypedExpressions
+pub mod Reading
+pub mod Converting
+pub mod Operators
+pub mod Calls
+pub mod Expressions
+pub mod Contexts
+pub mod Temporaries
+pub mod Behind
+pub mod Views
+pub mod AtomicParts
+pub mod Laws
