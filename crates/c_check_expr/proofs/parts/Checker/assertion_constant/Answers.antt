@@ -1,0 +1,34 @@
+-- The rule is looked at in what is found of the constant.
+use Rattle.std.proofs.Common.{refl, sym, ap, ◌∙◌}
+use Rattle.c_expr_rules.specs.Contexts.{integer_constant, is_zero_constant, constant_in}
+use Rattle.c_expr_rules.specs.Outcomes as o
+use Rattle.c_expr_rules.specs.declared.typed.Typed.{Typed}
+use Rattle.c_expr_rules.specs.Views.{seen_state}
+use Rattle.c_check_expr.proofs.Outcomes.{through_given}
+use Rattle.c_check_expr.proofs.Growing.{err_on}
+use Rattle.c_check_expr.proofs.Recursion.{gives_failed}
+use Rattle.c_check_expr.proofs.parts.Checker.assertion_constant.Goals as goal
+
+pub returns : goal.returns
+returns g c =
+    let around = g.S.Surroundings.told c.args.self.now.around.now in
+    let s = seen_state c.integer_constant.new.state in
+    let line = c.args.expr.now.span.line in
+    let test = λ (s : o.State) (t : Typed). is_zero_constant (constant_in t.known) in
+    let broken = c.also.ensures s test c.is_zero_constant-is_broken.ensures in
+    record {
+      found = ap (λ (x : o.Checked Typed). o.also line 32 test x) c.in_ok-found.ensures.found ∙ sym broken;
+      grows = c.in_ok-found.ensures.grows;
+    }
+
+pub returns-in_err-found : goal.returns-in_err-found
+returns-in_err-found g c =
+    let around = g.S.Surroundings.told c.args.self.now.around.now in
+    let s = seen_state c.integer_constant.new.state in
+    let line = c.args.expr.now.span.line in
+    let test = λ (s : o.State) (t : Typed). is_zero_constant (constant_in t.known) in
+    let f = c.in_err-found.field-0.0 in
+    record {
+      found = gives_failed s c.from_residual.result f _ c.from_residual.ensures.1 (through_given s f (integer_constant around (seen_state c.args.state.now) c.args.expr.now) (λ (x : o.Checked Typed). o.also line 32 test x) (λ b. refl) c.in_err-found.ensures.found);
+      grows = err_on _ c.from_residual.result _ _ c.from_residual.ensures.1;
+    }
