@@ -7,6 +7,10 @@ pub length-declaration : (d : Naming) (blocks : List (List Naming)) → 0 < leng
 length-declaration d [] some = absurd (omega arith)
 length-declaration d (block ∷ outer) some = refl
 
+-- the same, under a name that a tactic's list can have
+pub declared_depth : (d : Naming) (blocks : List (List Naming)) → 0 < length blocks → length (with_declaration d blocks) ≡ length blocks
+declared_depth d blocks some = length-declaration d blocks some
+
 pub declared_and_taken : (d : Naming) (blocks : List (List Naming)) → 0 < length blocks → without_newest (with_declaration d blocks) ≡ blocks
 declared_and_taken d [] some = absurd (omega arith)
 declared_and_taken d (block ∷ outer) some = refl

@@ -10,6 +10,7 @@ pub mod laws;
 mod scopes;
 mod space;
 
+pub use again::declaration;
 pub use blocks::Declaration;
 pub use scopes::{Scope, Scopes, space_of};
 pub use space::{DeclareFault, Space, Unknown};

@@ -145,6 +145,13 @@ impl Scopes {
         self.blocks(space).find_here(name)
     }
 
+    /// How many declarations the innermost block has in a name space.
+    pub fn count_here(&self, space: Space) -> usize
+        ensures { result ≡ length (innermost (blocks_in space self.now)) }
+    {
+        self.blocks(space).innermost().len()
+    }
+
     fn blocks(&self, space: Space) -> &Blocks
         ensures { result.now ≡ blocks_in space self.now }
     {
@@ -155,6 +162,7 @@ impl Scopes {
     }
 
     /// Declares a name in the innermost block, in the name space of what it stands for. A refusal changes nothing.
+    #[tactic(auto, using(crate::proofs::SameLengths::declared_depth))]
     pub fn declare(&mut self, space: Space, name: &[u8], what: Declared) -> Result<(), DeclareFault>
         requires { space ≡ space_of what }
         ensures ok { OnOk result (IsSomeAnd (declaration_in self.old space name.now what)
@@ -162,6 +170,7 @@ impl Scopes {
         ensures again { result ≡ Err DeclareFault.Again
             → declaration_in self.old space name.now what ≡ None }
         ensures err { OnErr result (self.new ≡ self.old) }
+        ensures depth { length self.new.ordinary ≡ length self.old.ordinary }
     {
         let here = self.look_up_here(space, name).copied();
         let linked = self.linked.find(name).copied();
