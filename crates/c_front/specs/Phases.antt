@@ -1,7 +1,7 @@
 -- The phases before the parser, and the refusal of a file by each fault.
 use Rattle.std.specs.Prelude.{ℕ, List, Result, Ok, Err}
-use Rattle.filc_num.specs.declared.refusal.RefusalKind.{RefusalKind}
-use Rattle.filc_num.specs.declared.refusal.RefusalKind.TheVariants as kind
+use Rattle.c_rules.specs.declared.refusal.RefusalKind.{RefusalKind}
+use Rattle.c_rules.specs.declared.refusal.RefusalKind.TheVariants as kind
 use Rattle.c_lexer.specs.declared.fault.LexFault.{LexFault}
 use Rattle.c_lexer.specs.declared.fault.LexFault.TheVariants as lexer
 use Rattle.c_lexer.specs.declared.token.Token.{Token}

@@ -5,7 +5,7 @@ ghost use Rattle.c_front.specs.Phases.{of_lexer, of_preprocessor};
 
 use c_lexer::LexFault;
 use c_preproc::PreFault;
-use filc_num::{Refusal, RefusalKind};
+use c_rules::{Refusal, RefusalKind};
 
 /// Why a file was not carried to its parser.
 #[derive(Clone, Copy, Debug, PartialEq, Eq, Drop)]

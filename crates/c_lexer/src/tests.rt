@@ -6,7 +6,8 @@
 //! on its line, and the text. A fault is shown as it prints for debugging.
 
 use super::*;
-use filc_num::{CIntType, Refusal, RefusalKind};
+use c_rules::{Refusal, RefusalKind};
+use filc_num::CIntType;
 use std::alloc::{AllocError, Global};
 use std::test::*;
 

@@ -22,3 +22,14 @@ fn a_fault_tells_its_rule_and_its_line(rt: HostRuntime) -> Result<(), Fail> {
     );
     Ok(())
 }
+
+#[test]
+fn a_refusal_is_printed_with_its_line(rt: HostRuntime) -> Result<(), Fail> {
+    let refusal = Refusal {
+        kind: RefusalKind::Header,
+        line: 12,
+    };
+    let printed = format!(in rt.alloc(); "{refusal}")?;
+    assert_eq!(rt; printed.as_str(), "unknown header at line 12");
+    Ok(())
+}

@@ -2,7 +2,6 @@ pub mod Integers
 pub mod CIntTypes
 pub mod WordBytes
 pub mod Reasons
-pub mod Refusals
 pub mod Gives
 pub mod Statics
 pub mod StaticDefs

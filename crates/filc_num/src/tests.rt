@@ -273,17 +273,6 @@ fn reasons_have_numbers_and_texts(rt: HostRuntime) {
 }
 
 #[test]
-fn a_refusal_is_printed_with_its_line(rt: HostRuntime) -> Result<(), Fail> {
-    let refusal = Refusal {
-        kind: RefusalKind::Header,
-        line: 12,
-    };
-    let printed = format!(in rt.alloc(); "{refusal}")?;
-    assert_eq!(rt; printed.as_str(), "unknown header at line 12");
-    Ok(())
-}
-
-#[test]
 fn a_static_object_begins_as_zeros(rt: HostRuntime) -> Result<(), Fail> {
     let object = StaticDef::zeros(rt.alloc(), 9, false)?;
     assert_eq!(rt; object.words.as_slice(), [0, 0].as_slice());

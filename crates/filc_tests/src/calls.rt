@@ -39,7 +39,7 @@ const NONE: Fails = Fails {
 };
 
 const NOT_BUILT: Ending = Ending::Refused(Refusal {
-    kind: RefusalKind::Rule(0),
+    kind: RefusalKind::NotBuilt,
     line: 1,
 });
 

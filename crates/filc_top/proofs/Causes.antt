@@ -6,8 +6,8 @@ use Rattle.filc_io.specs.Outside.{FilesState, file_named}
 use Rattle.filc_io.specs.declared.outside.TheConstants.{MOST_READ}
 use Rattle.form_tree.specs.Plain.{PlainProgram}
 use Rattle.form_reader.specs.Form.{HasForm}
-use Rattle.filc_num.specs.declared.refusal.Refusal.{Refusal}
-use Rattle.filc_num.specs.declared.refusal.RefusalKind.TheVariants as kind
+use Rattle.c_rules.specs.declared.refusal.Refusal.{Refusal}
+use Rattle.c_rules.specs.declared.refusal.RefusalKind.TheVariants as kind
 use Rattle.c_lexer.specs.Source.{without_splices, last_line_of, lines_of}
 use Rattle.c_lexer.specs.Tokens.{file_limit, tokens_from, user}
 use Rattle.c_lexer.specs.declared.fault.LexFault.TheVariants as lexer

@@ -1,7 +1,7 @@
 -- Each ending's own clause follows from the outcome.
 use Rattle.std.proofs.Common.{◌≡◌, ◌⊎◌, inl, inr, ℕ, List, [], refl, sym, ap, subst, ◌∙◌, arith, ◌≤◌}
 use Rattle.std.specs.Prelude.{Option, Some, None}
-use Rattle.filc_num.specs.declared.refusal.Refusal.{Refusal}
+use Rattle.c_rules.specs.declared.refusal.Refusal.{Refusal}
 use Rattle.filc_io.specs.Outside.{FilesState, Takes, append}
 use Rattle.ideal_machine.specs.declared.finish.Finish.{Finish}
 use Rattle.ideal_machine.specs.declared.finish.Finish.TheVariants.{Exited, Trapped}

@@ -1,9 +1,9 @@
 -- A file that is checked has one refusal: each phase refuses only what the one before gave, and for one reason.
 use Rattle.std.proofs.Common.{◌≡◌, ℕ, List, sym, ap, subst, ◌∙◌}
 use Rattle.std.specs.Prelude.{Ok, Err}
-use Rattle.filc_num.specs.declared.refusal.Refusal.{Refusal}
-use Rattle.filc_num.specs.declared.refusal.RefusalKind.{RefusalKind}
-use Rattle.filc_num.specs.declared.refusal.RefusalKind.TheVariants as kind
+use Rattle.c_rules.specs.declared.refusal.Refusal.{Refusal}
+use Rattle.c_rules.specs.declared.refusal.RefusalKind.{RefusalKind}
+use Rattle.c_rules.specs.declared.refusal.RefusalKind.TheVariants as kind
 use Rattle.c_lexer.specs.declared.token.Token.{Token}
 use Rattle.c_parts.specs.Reading.{Why, Syntax, Deep}
 use Rattle.c_cursor.specs.Input.{start_of}

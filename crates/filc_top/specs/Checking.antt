@@ -1,6 +1,6 @@
 -- What checking a file comes to: its phases, one after the other, and the refusal of the first that refuses it.
 use Rattle.std.specs.Prelude.{◌≡◌, ℕ, List, Ok, Err}
-use Rattle.filc_num.specs.declared.refusal.Refusal.{Refusal}
+use Rattle.c_rules.specs.declared.refusal.Refusal.{Refusal}
 use Rattle.c_lexer.specs.declared.token.Token.{Token}
 use Rattle.c_lexer.specs.Source.{without_splices}
 use Rattle.c_preproc.specs.Expansion.{with_digits}

@@ -5,7 +5,7 @@
 use Rattle.std.specs.Prelude.{◌≡◌, ◌⊎◌, ℕ, List, []}
 use Rattle.filc_io.specs.Counts.{HasRisen}
 use Rattle.filc_io.specs.Outside.{FilesState, Takes}
-use Rattle.filc_num.specs.declared.refusal.Refusal.{Refusal}
+use Rattle.c_rules.specs.declared.refusal.Refusal.{Refusal}
 use Rattle.filc_top.specs.Commands.{IsCheck, IsNoCommand}
 use Rattle.filc_top.specs.Endings.{line_of, not_built}
 use Rattle.filc_top.specs.Headline.{Streams, Devices, HasRun, HasNoForm, HasRefusal, HasNotRead}

@@ -2,10 +2,10 @@
 use Rattle.std.specs.Prelude.{ℕ, List, [], ◌∷◌, ◌++◌, codes}
 use Rattle.std.specs.Fmt.{decimal}
 use Rattle.filc_num.specs.Reasons.{text_of}
-use Rattle.filc_num.specs.Refusals.{refusal_text}
-use Rattle.filc_num.specs.declared.refusal.Refusal.{Refusal}
-use Rattle.filc_num.specs.declared.refusal.RefusalKind.TheVariants.{Rule}
-use Rattle.filc_num.specs.declared.refusal.RefusalKind.TheVariants as kind
+use Rattle.c_rules.specs.Refusals.{refusal_text}
+use Rattle.c_rules.specs.declared.refusal.Refusal.{Refusal}
+use Rattle.c_rules.specs.declared.refusal.RefusalKind.TheVariants.{NotBuilt}
+use Rattle.c_rules.specs.declared.refusal.RefusalKind.TheVariants as kind
 use Rattle.c_front.specs.declared.fault.FrontFault.{FrontFault}
 use Rattle.c_front.specs.declared.fault.FrontFault.TheVariants as front
 use Rattle.c_parser.specs.declared.fault.ParseFault.{ParseFault}
@@ -29,7 +29,7 @@ status_of Spent = 72
 
 -- the refusal of a file that filc does not run yet
 abbrev pub not_built : Refusal
-not_built = record { kind = Rule 0; line = 1 }
+not_built = record { kind = NotBuilt; line = 1 }
 
 -- the end of a line that names a line of the file
 abbrev pub at_line : List ℕ → ℕ → List ℕ

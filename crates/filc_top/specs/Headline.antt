@@ -22,7 +22,7 @@ use Rattle.form_play.specs.Observable.{bytes_of, finish_of}
 use Rattle.code_gen.specs.Code.{program_code}
 use Rattle.code_gen.specs.Correct.{Plays}
 use Rattle.single_thread.specs.Alone.{run_world, history_of_run, stop_of_run}
-use Rattle.filc_num.specs.declared.refusal.Refusal.{Refusal}
+use Rattle.c_rules.specs.declared.refusal.Refusal.{Refusal}
 use Rattle.filc_top.specs.Checking.{IsRefusedFile}
 use Rattle.filc_top.specs.Commands.{IsRun, IsCheck, IsNoCommand}
 use Rattle.filc_top.specs.Endings.{line_of, not_built}

@@ -5,7 +5,8 @@ ghost use Rattle.filc_top.specs.Endings.{status_of};
 
 use c_front::FrontFault;
 use c_parser::ParseFault;
-use filc_num::{Reason, Refusal, RefusalKind};
+use c_rules::{Refusal, RefusalKind};
+use filc_num::Reason;
 use std::alloc::AllocError;
 
 /// How a call of `filc` ended.
@@ -80,7 +81,7 @@ impl From<ParseFault> for Ending {
 
 /// The refusal of a file that filc does not run yet.
 pub const NOT_BUILT: Refusal = Refusal {
-    kind: RefusalKind::Rule(0),
+    kind: RefusalKind::NotBuilt,
     line: 1,
 };
 

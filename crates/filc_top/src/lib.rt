@@ -9,7 +9,7 @@ mod ending;
 pub mod laws;
 mod lines;
 
+pub use c_rules::{Refusal, RefusalKind};
 pub use call::filc;
 pub use ending::{Ending, status_of};
-pub use filc_num::{Refusal, RefusalKind};
 pub use lines::write_line;

@@ -1,8 +1,9 @@
 //! Why a file is refused, and the text of each reason.
 
 ghost use Rattle.std.specs.Prelude.{◌≡◌, Some};
-ghost use Rattle.filc_num.specs.Refusals.{refusal_text, refusal_at_line};
+ghost use Rattle.c_rules.specs.Refusals.{refusal_text, refusal_at_line};
 
+use crate::rule::Rule;
 use std::fmt;
 
 /// Why a file is refused, and the line where, counted from 1.
@@ -35,8 +36,13 @@ pub enum RefusalKind {
     Syntax,
     /// Brackets, prefix operators or statements nest too deep.
     Deep,
-    /// A rule of the language, by its number. Rule 0 says that filc does not run such a file yet.
-    Rule(u8),
+    /// A rule of the language is broken.
+    Rule(Rule),
+    /// The functions and objects of a file that breaks no rule don't keep what a program keeps. No file is
+    /// known to be so.
+    Unfit,
+    /// filc does not run such a file yet.
+    NotBuilt,
 }
 
 impl RefusalKind {
@@ -55,7 +61,9 @@ impl RefusalKind {
             RefusalKind::Expanded => "too many tokens",
             RefusalKind::Syntax => "syntax",
             RefusalKind::Deep => "too deep",
-            RefusalKind::Rule(_) => "not built",
+            RefusalKind::Rule(rule) => rule.text(),
+            RefusalKind::Unfit => "unfit program",
+            RefusalKind::NotBuilt => "not built",
         }
     }
 }
