@@ -70,6 +70,7 @@ impl Scopes {
     /// Opens a block.
     pub fn enter(&mut self) -> Result<(), AllocError>
         ensures ok { OnOk result (self.new ≡ with_block self.old) }
+        ensures inside { OnOk result (1 < length self.new.ordinary) }
         ensures err { OnErr result (self.new ≡ self.old) }
     {
         self.ordinary.enter()?;
@@ -107,7 +108,8 @@ impl Scopes {
     /// Opens a block that declares what this scope declares. A refusal leaves a block open that declares
     /// some of it.
     pub fn enter_with(&mut self, scope: &Scope) -> Result<(), AllocError>
-        ensures { OnOk result (self.new ≡ with_scope scope.now self.old) }
+        ensures scope { OnOk result (self.new ≡ with_scope scope.now self.old) }
+        ensures inside { OnOk result (1 < length self.new.ordinary) }
     {
         self.enter()?;
         declare_each(&mut self.ordinary, &scope.ordinary)?;
