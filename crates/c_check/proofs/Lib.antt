@@ -1,5 +1,0 @@
-mod OneAnswer
-mod Entries
-mod Deriving
-pub mod WrittenFiles
-pub mod Rows

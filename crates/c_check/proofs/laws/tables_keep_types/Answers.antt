@@ -1,6 +1,0 @@
--- A table keeps what it has.
-use Rattle.c_check.proofs.Deriving.{types_made}
-use Rattle.c_check.proofs.laws.tables_keep_types.Goals as goal
-
-pub returns : goal.returns
-returns = λ c. types_made

@@ -1,0 +1,11 @@
+pub mod Indexed
+pub mod Placed
+pub mod Popping
+pub mod Obeying
+pub mod Obeyed
+pub mod PartLists
+pub mod OneAnswer
+pub mod Entries
+pub mod Deriving
+pub mod WrittenFiles
+pub mod Rows

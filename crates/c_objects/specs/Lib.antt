@@ -1,0 +1,4 @@
+pub mod Contents
+pub mod StaticPlaces
+pub mod Closing
+pub mod Calls
