@@ -1,0 +1,9 @@
+pub mod Behind
+pub mod Blocks
+pub mod Chains
+pub mod Going
+pub mod Passing
+pub mod SpecifierRows
+pub mod SpecifierTrees
+pub mod Steps
+pub mod Suffixes

@@ -1,0 +1,4 @@
+pub mod Views
+pub mod Lists
+pub mod Parts
+pub mod Laws
