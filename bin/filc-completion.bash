@@ -65,11 +65,11 @@ _filc() {
     local begun=${COMP_WORDS[COMP_CWORD]}
     COMPREPLY=()
     if [ "$COMP_CWORD" -eq 1 ]; then
-        mapfile -t COMPREPLY < <(compgen -W "run check --help --version" -- "$begun")
+        mapfile -t COMPREPLY < <(compgen -W "run check code --help --version" -- "$begun")
         return
     fi
     case ${COMP_WORDS[1]} in
-        run | check)
+        run | check | code)
             _filc_after_command "${COMP_WORDS[1]}" "$begun" "${COMP_WORDS[@]:2:COMP_CWORD-2}"
             ;;
     esac

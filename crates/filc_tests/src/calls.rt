@@ -39,7 +39,7 @@ const NONE: Fails = Fails {
 };
 
 const NOT_BUILT: Ending = Ending::Refused(Refusal {
-    kind: RefusalKind::NotBuilt,
+    kind: RefusalKind::Rule(0),
     line: 1,
 });
 
@@ -50,6 +50,8 @@ const USAGE_LINE: &str = "filc: usage: run, threads, check or code FILE, or demo
 const RUN: &[&str] = &["run", "a.c"];
 
 const CHECK: &[&str] = &["check", "a.c"];
+
+const CODE: &[&str] = &["code", "a.c"];
 
 /// Makes the call, and compares what came with what the row wants.
 fn check(rt: &impl Abort, alloc: Global, row: &Row<'_>, fails: &Fails<'_>) -> Result<(), Fail> {
@@ -375,6 +377,53 @@ fn a_device_that_fails_ends_the_call(rt: HostRuntime) -> Result<(), Fail> {
         ),
     ] {
         check(&rt, rt.alloc(), &row, &fails)?;
+    }
+    Ok(())
+}
+
+/// A row whose call writes a text and no line.
+fn row_of_text<'a>(name: &'a str, words: &'a [&'a str], file: &'a str, out: &'a str) -> Row<'a> {
+    Row {
+        name,
+        words,
+        file: file.as_bytes(),
+        ending: Ending::Listed,
+        out,
+        err: "",
+    }
+}
+
+#[test]
+fn programs_are_accepted_and_listed(rt: HostRuntime) -> Result<(), Fail> {
+    let file = "int main(void){\nreturn 42;}";
+    let listing =
+        "filc code 1\nfunction 0 9\n0 2 Const 0 42\n1 2 Return 0\n2 1 Const 0 0\n3 1 Return 0\n";
+    for row in [
+        row_of_text("a program", CHECK, file, "accepted\n"),
+        row_of_text("its code", CODE, file, listing),
+    ] {
+        check(&rt, rt.alloc(), &row, &NONE)?;
+        let few = Fails { most: 2, ..NONE };
+        check(&rt, rt.alloc(), &row, &few)?;
+    }
+    Ok(())
+}
+
+#[test]
+fn broken_rules_are_told_of_both_commands(rt: HostRuntime) -> Result<(), Fail> {
+    for words in [CHECK, CODE] {
+        let row = Row {
+            name: "an unknown name",
+            words,
+            file: b"int main(void){\nreturn x;}",
+            ending: Ending::Refused(Refusal {
+                kind: RefusalKind::Rule(1),
+                line: 2,
+            }),
+            out: "",
+            err: "filc: refused: unknown name at line 2\n",
+        };
+        check(&rt, rt.alloc(), &row, &NONE)?;
     }
     Ok(())
 }

@@ -1,7 +1,7 @@
-//! `check FILE`: each kind of refusal, with its line, of the phases up to the tree.
+//! `check FILE`: each kind of refusal, with its line, of the phases up to the tree, and files that are accepted.
 //!
-//! A row has a file and the text of its refusal as standard error has it, worked out by hand. The line is that of the
-//! exact token or directive. A file whose tokens spell a tree is `not built`.
+//! A row has a file and its answer, worked out by hand: `accepted`, or the text of its refusal as standard error has
+//! it. The line is that of the exact token or directive. `file_rows` has the rules of the language.
 
 use filc_io::{MemFiles, MemSink, MemSource};
 use filc_top::{Ending, filc, status_of};
@@ -10,11 +10,12 @@ use std::process::Abort;
 use std::str::from_utf8;
 use std::test::Fail;
 
-/// The answer for a file whose tokens spell a tree.
-pub const HAS_TREE: &str = "not built at line 1";
+/// The answer for a file without `main` that breaks no other rule.
+pub const NO_MAIN: &str = "no main at line 1";
 
-/// What standard error says of a file that is checked, between `filc: refused: ` and the line feed.
-pub fn refusal(rt: &impl Abort, alloc: Global, file: &[u8]) -> Result<String, Fail> {
+/// What is said of a file that is checked: the line of standard output without its line feed, or what standard error
+/// says between `filc: refused: ` and the line feed.
+pub fn answer(rt: &impl Abort, alloc: Global, file: &[u8]) -> Result<String, Fail> {
     let mut files = MemFiles::new(alloc, &[])?;
     files.add("a.c", file)?;
     let mut input = MemSource::new(alloc, b"", 1, &[])?;
@@ -22,19 +23,24 @@ pub fn refusal(rt: &impl Abort, alloc: Global, file: &[u8]) -> Result<String, Fa
     let mut err = MemSink::new(alloc, 200, 200, &[])?;
     let words = ["check", "a.c"];
     let ending = filc(alloc, &words, &mut files, &mut input, &mut out, &mut err);
+    let text = from_utf8(out.bytes()).unwrap_or("");
+    let line = from_utf8(err.bytes()).unwrap_or("");
+    if let Ending::Listed = ending {
+        assert_eq!(rt; status_of(&ending), 0);
+        assert_eq!(rt; line, "");
+        return Ok(String::from_str(alloc, text.strip_suffix("\n").unwrap_or(""))?);
+    }
     assert_eq!(rt; status_of(&ending), 68);
     assert!(rt; matches!(ending, Ending::Refused(_)));
-    assert_eq!(rt; out.bytes().len(), 0);
-    let line = from_utf8(err.bytes()).unwrap_or("");
+    assert_eq!(rt; text, "");
     let rest = line.strip_prefix("filc: refused: ").unwrap_or("");
-    let text = rest.strip_suffix("\n").unwrap_or("");
-    Ok(String::from_str(alloc, text)?)
+    Ok(String::from_str(alloc, rest.strip_suffix("\n").unwrap_or(""))?)
 }
 
-/// Files and the refusals of each, by name.
+/// Files and the answers of each, by name.
 fn compare(rt: &impl Abort, alloc: Global, rows: &[(&str, &str, &str)]) -> Result<(), Fail> {
     for (name, file, wanted) in rows {
-        let found = refusal(rt, alloc, file.as_bytes())?;
+        let found = answer(rt, alloc, file.as_bytes())?;
         assert_eq!(rt; found.as_str(), *wanted, "{name}");
     }
     Ok(())
@@ -98,49 +104,49 @@ fn files_that_have_no_tokens(rt: HostRuntime) -> Result<(), Fail> {
 #[test]
 fn files_with_a_tree(rt: HostRuntime) -> Result<(), Fail> {
     let rows = [
-        ("the empty file", "", HAS_TREE),
-        ("a program", "int main(void){return 42;}", HAS_TREE),
+        ("the empty file", "", NO_MAIN),
+        ("a program", "int main(void){return 42;}", "accepted"),
         (
             "an if in an if",
             "void f(int a){if(a)if(a)a=1;else a=2;}",
-            HAS_TREE,
+            NO_MAIN,
         ),
         (
             "a name that hides a typedef",
             "typedef int T;int f(void){int T=2;return T*T;}",
-            HAS_TREE,
+            NO_MAIN,
         ),
         (
             "a typedef again behind its block",
             "typedef int T;void f(void){{int T=2;T=3;}T x;x=1;}",
-            HAS_TREE,
+            NO_MAIN,
         ),
         (
             "a parameter hides a typedef in the body",
             "typedef int T;int f(int T){return T*T;}",
-            HAS_TREE,
+            NO_MAIN,
         ),
         (
             "a switch",
             "void f(int a){switch(a){case 1:default:;}}",
-            HAS_TREE,
+            NO_MAIN,
         ),
-        ("a group left out", "#if 0\nint x=1 2;\n#endif\n", HAS_TREE),
+        ("a group left out", "#if 0\nint x=1 2;\n#endif\n", NO_MAIN),
         (
             "a pointer to a function that takes one",
             "int(*(*fp)(int(*)(int),int))(char);",
-            HAS_TREE,
+            NO_MAIN,
         ),
         (
             "nested initialisers",
             "int a[2][2]={{1,2},{3,4,},};",
-            HAS_TREE,
+            NO_MAIN,
         ),
-        ("a static assertion", "_Static_assert(1,\"one\");", HAS_TREE),
+        ("a static assertion", "_Static_assert(1,\"one\");", NO_MAIN),
         (
             "a file that breaks a rule",
             "int main(void){return y;}",
-            HAS_TREE,
+            "unknown name at line 1",
         ),
     ];
     compare(&rt, rt.alloc(), &rows)
@@ -223,7 +229,7 @@ fn doublings(alloc: Global) -> Result<String, Fail> {
 #[test]
 fn a_file_may_not_expand_without_bound(rt: HostRuntime) -> Result<(), Fail> {
     let file = doublings(rt.alloc())?;
-    let found = refusal(&rt, rt.alloc(), file.as_bytes())?;
+    let found = answer(&rt, rt.alloc(), file.as_bytes())?;
     assert_eq!(rt; found.as_str(), "too many tokens at line 24");
     Ok(())
 }
@@ -244,9 +250,9 @@ fn in_brackets(alloc: Global, count: usize) -> Result<Vec<u8>, Fail> {
 
 #[test]
 fn two_hundred_constructs_may_be_open(rt: HostRuntime) -> Result<(), Fail> {
-    for (count, wanted) in [(199, HAS_TREE), (200, "too deep at line 2")] {
+    for (count, wanted) in [(199, "accepted"), (200, "too deep at line 2")] {
         let file = in_brackets(rt.alloc(), count)?;
-        let found = refusal(&rt, rt.alloc(), &file)?;
+        let found = answer(&rt, rt.alloc(), &file)?;
         assert_eq!(rt; found.as_str(), wanted, "{count} brackets");
     }
     Ok(())
@@ -255,12 +261,9 @@ fn two_hundred_constructs_may_be_open(rt: HostRuntime) -> Result<(), Fail> {
 #[test]
 fn a_file_has_a_megabyte_at_most(rt: HostRuntime) -> Result<(), Fail> {
     let alloc = rt.alloc();
-    for (size, wanted) in [
-        (1_048_576, HAS_TREE),
-        (1_048_577, "file too long at line 1"),
-    ] {
+    for (size, wanted) in [(1_048_576, NO_MAIN), (1_048_577, "file too long at line 1")] {
         let spaces = vec![in alloc; 32_u8; size]?;
-        let found = refusal(&rt, alloc, spaces.as_slice())?;
+        let found = answer(&rt, alloc, spaces.as_slice())?;
         assert_eq!(rt; found.as_str(), wanted, "{size} spaces");
     }
     Ok(())

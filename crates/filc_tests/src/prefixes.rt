@@ -1,9 +1,10 @@
 //! Each prefix of a program that uses every statement: which refusal, at which line, at each token.
 //!
 //! What stands before the end of a file begins one. So a prefix is refused only at its end, as `syntax` at its last
-//! line, or it is a file itself. A grammar that lacked a production would refuse later prefixes at an earlier line.
+//! line, or it is a file itself: the last one a program, and all others without `main`. A grammar that lacked a
+//! production would refuse later prefixes at an earlier line.
 
-use crate::checks::{HAS_TREE, refusal};
+use crate::checks::{NO_MAIN, answer};
 use std::alloc::Global;
 use std::test::Fail;
 
@@ -117,11 +118,13 @@ fn each_prefix_is_refused_at_its_end(rt: HostRuntime) -> Result<(), Fail> {
         for (end, letter) in ends.iter().zip(letters.as_bytes()) {
             let front = line.get(..*end).unwrap_or("");
             let file = format!(in alloc; "{before}{front}")?;
-            let found = refusal(&rt, alloc, file.as_bytes())?;
-            let wanted = if *letter == b't' {
-                HAS_TREE
-            } else {
+            let found = answer(&rt, alloc, file.as_bytes())?;
+            let wanted = if *letter != b't' {
                 at_end.as_str()
+            } else if number == LINES.len() {
+                "accepted"
+            } else {
+                NO_MAIN
             };
             assert_eq!(rt; found.as_str(), wanted, "line {number}, byte {end}");
         }

@@ -2,4 +2,5 @@ pub mod Pieces
 pub mod Causes
 pub mod Words
 pub mod Clauses
-pub mod Refusals
+pub mod RuleNumbers
+mod Refusals

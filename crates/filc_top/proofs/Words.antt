@@ -4,7 +4,7 @@ use Rattle.std.specs.Prelude.{Option, Some, None, IfSome, IfNone}
 use Rattle.std.specs.Fmt.{decimal}
 use Rattle.std.proofs.lemmas.Fmt.{decimal_injective}
 use Rattle.std.proofs.lemmas.List.{length-map}
-use Rattle.filc_top.specs.Commands.{begins_with_dash, IsFileName, IsTurns, IsRun, alone, before, after, IsCheck, IsNoCommand}
+use Rattle.filc_top.specs.Commands.{begins_with_dash, IsFileName, IsTurns, IsRun, alone, before, after, IsCheck, IsCode, IsNoCommand}
 
 pub some_map : {T : Type 0} (r : Option T) (P Q : T → Type 0) → IfSome r P → ((x : T) → P x → Q x) → IfSome r Q
 some_map (Some x) P Q p f = f x p
@@ -31,7 +31,7 @@ of_length_four f (a ∷ (b ∷ (e ∷ (g ∷ (h ∷ xs))))) d four = absurd (ome
 
 -- a command has two words or four
 pub other_length : {A : Type 0} (f : A → List ℕ) (xs : List A) → (length xs ≡ 2 → ⊥) → (length xs ≡ 4 → ⊥) → IsNoCommand (map f xs)
-other_length f xs two four = record { runs_none = runs; checks_none = checks }
+other_length f xs two four = record { runs_none = runs; checks_none = checks; lists_none = lists }
   where
     runs : (name : List ℕ) (turns : ℕ) → IsRun (map f xs) name turns → ⊥
     runs name turns (alone same is default) = two (sym (length-map xs f) ∙ ap length same)
@@ -40,6 +40,9 @@ other_length f xs two four = record { runs_none = runs; checks_none = checks }
 
     checks : (name : List ℕ) → IsCheck (map f xs) name → ⊥
     checks name is = two (sym (length-map xs f) ∙ ap length is.words_are)
+
+    lists : (name : List ℕ) → IsCode (map f xs) name → ⊥
+    lists name is = two (sym (length-map xs f) ∙ ap length is.words_are)
 
 -- one word spells one number
 pub one_number : (m n : ℕ) (word : List ℕ) → m ≤ 2147483647 → IsTurns n → word ≡ decimal m → word ≡ decimal n → m ≡ n
@@ -71,17 +74,42 @@ module _ (command name : List ℕ) where
       let one : file ≡ name = cc in
       other (subst IsFileName one is.name_is)
 
-  pub no_name_two : (IsFileName name → ⊥) → IsNoCommand (command ∷ name ∷ [])
-  no_name_two other = record { runs_none = λ file turns is. not_name_two file turns other is; checks_none = λ file is. not_name_check file other is }
+  not_code_two : (file : List ℕ) → (command ≡ codes "code" → ⊥) → IsCode (command ∷ name ∷ []) file → ⊥
+  not_code_two file other is =
+      let same = is.words_are in
+      let word : command ≡ codes "code" = cc in
+      other word
 
-  pub no_word_two : (command ≡ codes "run" → ⊥) → (command ≡ codes "check" → ⊥) → IsNoCommand (command ∷ name ∷ [])
-  no_word_two run check = record { runs_none = λ file turns is. not_run_two file turns run is; checks_none = λ file is. not_check_two file check is }
+  not_name_code : (file : List ℕ) → (IsFileName name → ⊥) → IsCode (command ∷ name ∷ []) file → ⊥
+  not_name_code file other is =
+      let same = is.words_are in
+      let one : file ≡ name = cc in
+      other (subst IsFileName one is.name_is)
+
+  pub no_name_two : (IsFileName name → ⊥) → IsNoCommand (command ∷ name ∷ [])
+  no_name_two other =
+      record {
+        runs_none = λ file turns is. not_name_two file turns other is;
+        checks_none = λ file is. not_name_check file other is;
+        lists_none = λ file is. not_name_code file other is;
+      }
+
+  pub no_word_two : (command ≡ codes "run" → ⊥) → (command ≡ codes "check" → ⊥) → (command ≡ codes "code" → ⊥) → IsNoCommand (command ∷ name ∷ [])
+  no_word_two run check code =
+      record {
+        runs_none = λ file turns is. not_run_two file turns run is;
+        checks_none = λ file is. not_check_two file check is;
+        lists_none = λ file is. not_code_two file code is;
+      }
 
   pub run_two : command ≡ codes "run" → IsFileName name → IsRun (command ∷ name ∷ []) name 100000000
   run_two word is = alone (ap (λ (w : List ℕ). w ∷ name ∷ []) word) is refl
 
   pub check_two : command ≡ codes "check" → IsFileName name → IsCheck (command ∷ name ∷ []) name
   check_two word is = record { words_are = ap (λ (w : List ℕ). w ∷ name ∷ []) word; name_is = is }
+
+  pub code_two : command ≡ codes "code" → IsFileName name → IsCode (command ∷ name ∷ []) name
+  code_two word is = record { words_are = ap (λ (w : List ℕ). w ∷ name ∷ []) word; name_is = is }
 
 -- what checks a file runs none
 pub check_is_no_run : (words : List (List ℕ)) (name file : List ℕ) (turns : ℕ) → IsCheck words name → IsRun words file turns → ⊥
@@ -95,13 +123,34 @@ check_is_no_run words name file turns is (after same is_name within) =
     let check : words ≡ codes "check" ∷ name ∷ [] = is.words_are in
     cc
 
+-- what lists a file's code neither runs nor checks one
+pub code_is_no_run : (words : List (List ℕ)) (name file : List ℕ) (turns : ℕ) → IsCode words name → IsRun words file turns → ⊥
+code_is_no_run words name file turns is (alone same is_name default) =
+    let code : words ≡ codes "code" ∷ name ∷ [] = is.words_are in
+    cc
+code_is_no_run words name file turns is (before same is_name within) =
+    let code : words ≡ codes "code" ∷ name ∷ [] = is.words_are in
+    cc
+code_is_no_run words name file turns is (after same is_name within) =
+    let code : words ≡ codes "code" ∷ name ∷ [] = is.words_are in
+    cc
+
+pub code_is_no_check : (words : List (List ℕ)) (name file : List ℕ) → IsCode words name → IsCheck words file → ⊥
+code_is_no_check words name file is other =
+    let code : words ≡ codes "code" ∷ name ∷ [] = is.words_are in
+    let check : words ≡ codes "check" ∷ file ∷ [] = other.words_are in
+    cc
+
 -- four words
 module _ (run first second third : List ℕ) where
   not_check_four : (file : List ℕ) → IsCheck (run ∷ first ∷ second ∷ third ∷ []) file → ⊥
   not_check_four file is = let same = is.words_are in cc
 
+  not_code_four : (file : List ℕ) → IsCode (run ∷ first ∷ second ∷ third ∷ []) file → ⊥
+  not_code_four file is = let same = is.words_are in cc
+
   none_of_four : ((file : List ℕ) (turns : ℕ) → IsRun (run ∷ first ∷ second ∷ third ∷ []) file turns → ⊥) → IsNoCommand (run ∷ first ∷ second ∷ third ∷ [])
-  none_of_four runs = record { runs_none = runs; checks_none = not_check_four }
+  none_of_four runs = record { runs_none = runs; checks_none = not_check_four; lists_none = not_code_four }
 
   not_run_four : (file : List ℕ) (turns : ℕ) → (run ≡ codes "run" → ⊥) → IsRun (run ∷ first ∷ second ∷ third ∷ []) file turns → ⊥
   not_run_four file turns other (alone same is default) = cc

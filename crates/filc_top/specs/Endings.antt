@@ -10,6 +10,10 @@ use Rattle.c_front.specs.declared.fault.FrontFault.{FrontFault}
 use Rattle.c_front.specs.declared.fault.FrontFault.TheVariants as front
 use Rattle.c_parser.specs.declared.fault.ParseFault.{ParseFault}
 use Rattle.c_parser.specs.declared.fault.ParseFault.TheVariants as parser
+use Rattle.c_rules.specs.declared.fault.CheckFault.{CheckFault}
+use Rattle.c_rules.specs.declared.fault.CheckFault.TheVariants as check
+use Rattle.checked_program.specs.declared.Unfit.{Unfit}
+use Rattle.checked_program.specs.declared.Unfit.TheVariants as unfit
 use Rattle.filc_top.specs.declared.ending.Ending.{Ending}
 use Rattle.filc_top.specs.declared.ending.Ending.TheVariants.{Exited, Listed, Refused, Trapped, Deadlock, Spent, InputLimit, ReadFault, WriteFault, Usage, NoMemory}
 
@@ -27,9 +31,13 @@ status_of (Trapped reason line) = 70
 status_of Deadlock = 71
 status_of Spent = 72
 
--- the refusal of a file that filc does not run yet
+-- the refusal of a file that `run` does not run yet
 abbrev pub not_built : Refusal
 not_built = record { kind = NotBuilt; line = 1 }
+
+-- the refusal of a file that breaks no rule, and of which no program is made
+abbrev pub unfit_program : Refusal
+unfit_program = record { kind = kind.Unfit; line = 1 }
 
 -- the end of a line that names a line of the file
 abbrev pub at_line : List ℕ → ℕ → List ℕ
@@ -59,3 +67,13 @@ abbrev pub of_parser : ParseFault → Ending
 of_parser (parser.Syntax line) = Refused (record { kind = kind.Syntax; line = line })
 of_parser (parser.Deep line) = Refused (record { kind = kind.Deep; line = line })
 of_parser parser.NoMemory = NoMemory
+
+-- how a call ends whose file has a tree that is no program
+abbrev pub of_checker : CheckFault → Ending
+of_checker (check.Rule line rule) = Refused (record { kind = kind.Rule rule; line = line })
+of_checker check.NoMemory = NoMemory
+
+-- how a call ends whose file breaks no rule and makes no program
+abbrev pub of_unfit : Unfit → Ending
+of_unfit unfit.Parts = Refused unfit_program
+of_unfit unfit.NoMemory = NoMemory

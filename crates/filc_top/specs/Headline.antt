@@ -6,6 +6,9 @@
 -- were carried out, one for each turn, of the code that the compiler gives, which plays the program. What
 -- bounds it is the number of turns: without an end all of them were made, and the ending is Spent.
 --
+-- `check` and `code` run nothing. What they put out is said of the file alone: that it is a program of the language, or the
+-- listing of a code that plays this program.
+--
 -- A call has a cause and an output. The cause is how it ends but for the writing: what the words, the file and
 -- the run make it. Then the output goes to standard output, and the cause's line to standard error.
 use Rattle.std.specs.Prelude.{◌≡◌, ◌⊎◌, ℕ, List, [], Option, Some, None}
@@ -23,8 +26,9 @@ use Rattle.code_gen.specs.Code.{program_code}
 use Rattle.code_gen.specs.Correct.{Plays}
 use Rattle.single_thread.specs.Alone.{run_world, history_of_run, stop_of_run}
 use Rattle.c_rules.specs.declared.refusal.Refusal.{Refusal}
-use Rattle.filc_top.specs.Checking.{IsRefusedFile}
-use Rattle.filc_top.specs.Commands.{IsRun, IsCheck, IsNoCommand}
+use Rattle.filc_top.specs.Checking.{IsRefusedFile, IsTextOfCheck}
+use Rattle.filc_top.specs.Coding.{HasListing}
+use Rattle.filc_top.specs.Commands.{IsRun, IsCheck, IsCode, LooksAt, IsNoCommand}
 use Rattle.filc_top.specs.Endings.{line_of, not_built}
 use Rattle.filc_top.specs.Writing.{FailsWithin}
 use Rattle.filc_top.specs.declared.ending.Ending.{Ending}
@@ -91,7 +95,7 @@ pub record IsRunOf (program : PlainProgram) (turns : ℕ) (cause : Ending) (outp
 -- the words are a command for the file of this name
 pub data NamesFile (words : List (List ℕ)) (name : List ℕ) : Type 0 where
   to_run : (turns : ℕ) → IsRun words name turns → NamesFile words name
-  to_check : IsCheck words name → NamesFile words name
+  to_look : LooksAt words name → NamesFile words name
 
 -- the file was not read: the files failed, or none has the name
 pub record HasNotRead (words : List (List ℕ)) (old new : FilesState) : Type 0 where
@@ -115,13 +119,29 @@ pub record HasRun (words : List (List ℕ)) (files : FilesState) (cause : Ending
   pub form : HasForm file program
   pub run : IsRunOf program turns cause output
 
--- the words check a file that is refused
+-- the words look at a file that is refused
 pub record HasRefusal (words : List (List ℕ)) (files : FilesState) (refusal : Refusal) : Type 0 where
+  pub name : List ℕ
+  pub file : List ℕ
+  pub words_are : LooksAt words name
+  pub file_is : IsFile files.contents name file
+  pub why : IsRefusedFile file refusal
+
+-- the words check a file that is a program, and this is the text that says so
+pub record HasAcceptance (words : List (List ℕ)) (files : FilesState) (output : List ℕ) : Type 0 where
   pub name : List ℕ
   pub file : List ℕ
   pub words_are : IsCheck words name
   pub file_is : IsFile files.contents name file
-  pub why : IsRefusedFile file refusal
+  pub text : IsTextOfCheck file output
+
+-- the words list the code of a file that is a program, and this is the listing
+pub record HasCode (words : List (List ℕ)) (files : FilesState) (output : List ℕ) : Type 0 where
+  pub name : List ℕ
+  pub file : List ℕ
+  pub words_are : IsCode words name
+  pub file_is : IsFile files.contents name file
+  pub text : HasListing file output
 
 -- the words are a command for a file
 pub record HasCommand (words : List (List ℕ)) : Type 0 where
@@ -144,10 +164,14 @@ pub data IsCause (words : List (List ℕ)) (old new : FilesState) (cause : Endin
   -- the file that should run is not of the form
   refused :
       HasNoForm words old → IsSilent (ending.Refused not_built) cause output → IsCause words old new cause output
-  -- the file was checked, and is refused
-  checked :
+  -- the file was looked at, and is refused
+  looked_at :
       (refusal : Refusal) → HasRefusal words old refusal → IsSilent (ending.Refused refusal) cause output →
       IsCause words old new cause output
+  -- the file was checked, and is a program
+  accepted : HasAcceptance words old output → cause ≡ ending.Listed → IsCause words old new cause output
+  -- the code of the file's program was listed
+  listed : HasCode words old output → cause ≡ ending.Listed → IsCause words old new cause output
   -- its program was run
   ran : HasRun words old cause output → IsCause words old new cause output
   -- there was no memory for it, before the first turn

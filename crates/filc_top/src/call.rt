@@ -1,18 +1,16 @@
-//! The call, step by step: the words, the file, the front end, the run, and the writing.
+//! The call, step by step: the words, the file, what is done with it, and the writing.
 
 ghost use Rattle.std.specs.Prelude.{◌≡◌, ℕ, List, [], map, IfOk, IfErr};
 ghost use Rattle.form_reader.specs.Form.{HasForm};
 ghost use Rattle.filc_top.specs.Clauses.{SaysEnding};
 ghost use Rattle.filc_top.specs.Commands.{IsNoCommand};
 ghost use Rattle.filc_top.specs.Headline.{devices, streams, ending_of, IsSilent, IsCause, IsRunOf, IsWritten, IsOutcome};
-ghost use Rattle.filc_top.specs.Steps.{name_in, HasRead, EndsReading, EndsFrontEnd, EndsCheck, RunsForm, HasTree};
+ghost use Rattle.filc_top.specs.Steps.{name_in, HasRead, EndsReading, EndsFrontEnd, RunsForm};
 
 use crate::command::{Command, command_of};
 use crate::ending::{Ending, NOT_BUILT};
+use crate::front::{check_of_file, code_of_file};
 use crate::lines::write_line;
-use c_front::expanded_tokens;
-use c_parser::parse;
-use c_syntax::File;
 use code_gen::compile;
 use code_thread::CodeThread;
 use filc_io::{FileFault, Files, Sink, Source, write_all_of};
@@ -46,7 +44,7 @@ pub fn filc<'a, F: Files, I: Source, O: Sink, E: Sink>(
     write_outcome(out, err, cause, &output)
 }
 
-/// How the call ends but for the writing. What the program puts out goes into `output`.
+/// How the call ends but for the writing. What is put out goes into `output`.
 fn cause_of<F: Files>(alloc: Global, words: &[&str], files: &mut F, output: &mut Vec<u8>) -> Ending
     requires { output.old.items ≡ [] }
     ensures caused { IsCause (map (λ word. word.now) words.now)
@@ -66,7 +64,8 @@ fn cause_of<F: Files>(alloc: Global, words: &[&str], files: &mut F, output: &mut
             Ok(ending) => ending,
             Err(cause) => cause,
         },
-        Command::Check(_) => check_of_file(alloc, &file),
+        Command::Check(_) => check_of_file(alloc, &file, output),
+        Command::Code(_) => code_of_file(alloc, &file, output),
     }
 }
 
@@ -77,6 +76,7 @@ fn name_of<'a>(command: &Command<'a>) -> &'a str
     match command {
         Command::Run(name, _) => name,
         Command::Check(name) => name,
+        Command::Code(name) => name,
     }
 }
 
@@ -94,7 +94,7 @@ fn front_of_file<F: Files>(alloc: Global, files: &mut F, name: &str) -> Result<V
     }
 }
 
-/// The front end: the program that the file is.
+/// The reader of the small form: the program that the file is.
 fn program_of(alloc: Global, file: &[u8]) -> Result<Program, Ending>
     ensures found { IfOk result (HasForm file.now) }
     ensures ended { IfErr result (EndsFrontEnd file.now) }
@@ -121,27 +121,6 @@ fn run_of_file(
     let program = program_of(alloc, file)?;
     let ending = run_of(alloc, &program, turns, output)?;
     Ok(ending)
-}
-
-/// The phases of the front end, up to the tree that a file spells.
-fn tree_of(alloc: Global, file: &[u8]) -> Result<File, Ending>
-    ensures tree { IfOk result (HasTree file.now) }
-    ensures ended { IfErr result (EndsCheck file.now) }
-{
-    let tokens = expanded_tokens(alloc, file)?;
-    let tree = parse(alloc, &tokens)?;
-    Ok(tree)
-}
-
-/// How the check of a file ends. What has a tree is refused until the rules of the language are looked at.
-fn check_of_file(alloc: Global, file: &[u8]) -> Ending
-    ensures { EndsCheck file.now result }
-{
-    match tree_of(alloc, file) {
-        Ok(_) => {}
-        Err(ending) => return ending,
-    }
-    Ending::Refused(NOT_BUILT)
 }
 
 /// Compiles a program and runs it. All memory is taken before the first turn.

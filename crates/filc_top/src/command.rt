@@ -18,6 +18,8 @@ pub enum Command<'a> {
     Run(&'a str, u32),
     /// The file of this name is checked.
     Check(&'a str),
+    /// The code of the file of this name is listed.
+    Code(&'a str),
 }
 
 /// The command that the words are, where they are one.
@@ -45,6 +47,9 @@ fn of_two<'a>(command: &str, name: &'a str) -> Option<Command<'a>>
     }
     if command == "check" {
         return Some(Command::Check(name));
+    }
+    if command == "code" {
+        return Some(Command::Code(name));
     }
     None
 }

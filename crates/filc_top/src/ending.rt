@@ -5,7 +5,8 @@ ghost use Rattle.filc_top.specs.Endings.{status_of};
 
 use c_front::FrontFault;
 use c_parser::ParseFault;
-use c_rules::{Refusal, RefusalKind};
+use c_rules::{CheckFault, Refusal, RefusalKind};
+use checked_program::Unfit;
 use filc_num::Reason;
 use std::alloc::AllocError;
 
@@ -79,7 +80,42 @@ impl From<ParseFault> for Ending {
     }
 }
 
-/// The refusal of a file that filc does not run yet.
+impl From<CheckFault> for Ending {
+    ghost use Rattle.filc_top.specs.Endings.{of_checker};
+
+    ghost from_gives = { λ fault ending. ending ≡ of_checker fault };
+
+    fn from(fault: CheckFault) -> Ending {
+        match fault {
+            CheckFault::Rule { line, rule } => Ending::Refused(Refusal {
+                kind: RefusalKind::Rule(rule),
+                line,
+            }),
+            CheckFault::NoMemory => Ending::NoMemory,
+        }
+    }
+}
+
+impl From<Unfit> for Ending {
+    ghost use Rattle.filc_top.specs.Endings.{of_unfit};
+
+    ghost from_gives = { λ unfit ending. ending ≡ of_unfit unfit };
+
+    fn from(unfit: Unfit) -> Ending {
+        match unfit {
+            Unfit::Parts => Ending::Refused(UNFIT),
+            Unfit::NoMemory => Ending::NoMemory,
+        }
+    }
+}
+
+/// The refusal of a file that breaks no rule, and of which no program is made. No file is known to have it.
+pub const UNFIT: Refusal = Refusal {
+    kind: RefusalKind::Unfit,
+    line: 1,
+};
+
+/// The refusal of a file that `run` does not run yet.
 pub const NOT_BUILT: Refusal = Refusal {
     kind: RefusalKind::NotBuilt,
     line: 1,

@@ -6,6 +6,7 @@
 mod call;
 mod command;
 mod ending;
+mod front;
 pub mod laws;
 mod lines;
 

@@ -1,8 +1,8 @@
 -- How each step ends the call is a cause of it.
 use Rattle.std.proofs.Common.{List, ℕ, map, sym, subst}
 use Rattle.filc_top.specs.declared.command.Command.{Command}
-use Rattle.filc_top.specs.Steps.{EndsFrontEnd, EndsCheck, RunsForm}
-use Rattle.filc_top.proofs.Causes.{names_file, is_command, RunsFor, run_named, Checks, check_named, cause_of_reading, cause_of_front_end, cause_of_run, cause_of_check}
+use Rattle.filc_top.specs.Steps.{EndsFrontEnd, EndsCheck, EndsCode, RunsForm}
+use Rattle.filc_top.proofs.Causes.{names_file, is_command, RunsFor, run_named, Checks, check_named, Lists, code_named, cause_of_reading, cause_of_front_end, cause_of_run, cause_of_check, cause_of_code}
 use Rattle.filc_top.proofs.call.cause_of.Goals as goal
 
 pub returns-in-Err-clause-caused : goal.returns-in-Err-clause-caused
@@ -41,11 +41,23 @@ returns-in-Run-clause-caused g c =
 pub returns-in-Run-clause-no_file : goal.returns-in-Run-clause-no_file
 returns-in-Run-clause-no_file g c none = absurd (is_command (map (λ word. word.now) c.args.words.now) c.in-Some.command c.in-Some.ensures none)
 
-pub returns-clause-caused : goal.returns-clause-caused
-returns-clause-caused g c =
+pub returns-in-Check-clause-caused : goal.returns-in-Check-clause-caused
+returns-in-Check-clause-caused g c =
     let words = map (λ word. word.now) c.args.words.now in
     let named = c.name_of.result.now in
     let checks = subst (λ (x : Command). Checks x) (sym c.in-Check.is) tt in
     cause_of_check words (g.F.Files.state c.args.files.now) (g.F.Files.state c.front_of_file.new.files) named c.in-Ok.file.items c.in-Ok.ensures.read
-    (check_named words c.in-Some.command named c.in-Some.ensures c.name_of.ensures checks) c.check_of_file.result c.args.output.now.items
-    (subst (λ (file : List ℕ). EndsCheck file c.check_of_file.result) c.deref-in-Check.ensures.value c.check_of_file.ensures) c.requires
+    (check_named words c.in-Some.command named c.in-Some.ensures c.name_of.ensures checks) c.check_of_file.result c.check_of_file.new.output.items
+    (subst (λ (file : List ℕ). EndsCheck file c.check_of_file.result c.check_of_file.new.output.items) c.deref-in-Check.ensures.value c.check_of_file.ensures)
+
+pub returns-clause-caused : goal.returns-clause-caused
+returns-clause-caused g c =
+    let words = map (λ word. word.now) c.args.words.now in
+    let named = c.name_of.result.now in
+    let lists = subst (λ (x : Command). Lists x) (sym c.in-Code.is) tt in
+    cause_of_code words (g.F.Files.state c.args.files.now) (g.F.Files.state c.front_of_file.new.files) named c.in-Ok.file.items c.in-Ok.ensures.read
+    (code_named words c.in-Some.command named c.in-Some.ensures c.name_of.ensures lists) c.code_of_file.result c.code_of_file.new.output.items
+    (subst (λ (file : List ℕ). EndsCode file c.code_of_file.result c.code_of_file.new.output.items) c.deref-in-Code.ensures.value c.code_of_file.ensures)
+
+pub returns-in-Check-clause-no_file : goal.returns-in-Check-clause-no_file
+returns-in-Check-clause-no_file g c none = absurd (is_command (map (λ word. word.now) c.args.words.now) c.in-Some.command c.in-Some.ensures none)

@@ -1,0 +1,13 @@
+pub mod Handing
+pub mod KnownLists
+pub mod TextLists
+pub mod Rooms
+pub mod Heres
+pub mod Looking
+pub mod Asserting
+pub mod Inside
+pub mod Going
+pub mod Past
+pub mod Closing
+pub mod Ahead
+pub mod Readings

@@ -1,0 +1,6 @@
+-- Where there is no text nothing was put out.
+use Rattle.filc_top.proofs.Causes.{check_ends}
+use Rattle.filc_top.proofs.front.check_of_file.Goals as goal
+
+pub returns-in-Err : goal.returns-in-Err
+returns-in-Err c = check_ends c.args.file.now c.in-Err.cause c.args.output.now.items c.in-Err.ensures.ended c.requires
