@@ -3,6 +3,7 @@
 //! A row has the words, the file `a.c`, and what must come: the ending, the bytes of standard output and the line on
 //! standard error. They were worked out by hand. Where devices fail, a row says at which of their calls.
 
+use c_rules::Rule;
 use filc_io::{FileFault, Files, MemFiles, MemSink, MemSource};
 use filc_num::Reason;
 use filc_top::{Ending, Refusal, RefusalKind, filc};
@@ -39,7 +40,7 @@ const NONE: Fails = Fails {
 };
 
 const NOT_BUILT: Ending = Ending::Refused(Refusal {
-    kind: RefusalKind::Rule(0),
+    kind: RefusalKind::NotBuilt,
     line: 1,
 });
 
@@ -417,7 +418,7 @@ fn broken_rules_are_told_of_both_commands(rt: HostRuntime) -> Result<(), Fail> {
             words,
             file: b"int main(void){\nreturn x;}",
             ending: Ending::Refused(Refusal {
-                kind: RefusalKind::Rule(1),
+                kind: RefusalKind::Rule(Rule::UnknownName),
                 line: 2,
             }),
             out: "",
